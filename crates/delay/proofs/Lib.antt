@@ -1,0 +1,4 @@
+pub mod Whole
+pub mod Pair
+pub mod Exact
+pub mod Examples
