@@ -1,0 +1,10 @@
+pub mod Frame
+pub mod Increase
+pub mod Lists
+pub mod Ground
+pub mod Invariants
+pub mod Answered
+pub mod Heard
+pub mod Room
+pub mod Refusal
+pub mod Sound

@@ -1,0 +1,14 @@
+pub mod Model
+pub mod Set
+pub mod Walk
+pub mod Opening
+pub mod Publication
+pub mod Completion
+pub mod Stop
+pub mod Acquisition
+pub mod Observation
+pub mod Gate
+pub mod Calls
+pub mod Queries
+pub mod Demands
+pub mod Bench
