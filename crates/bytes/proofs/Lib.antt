@@ -1,0 +1,3 @@
+pub mod LittleEndian
+pub mod Runs
+pub mod Signed
