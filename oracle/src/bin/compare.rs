@@ -1,0 +1,3 @@
+fn main() -> std::process::ExitCode {
+    spindlecove_oracle::compare_main()
+}

@@ -1,0 +1,3 @@
+fn main() -> std::process::ExitCode {
+    spindlecove_oracle::oracle_main()
+}
