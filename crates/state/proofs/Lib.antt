@@ -1,0 +1,5 @@
+pub mod Rows
+pub mod Neat
+pub mod Columns
+pub mod Round
+pub mod Put
