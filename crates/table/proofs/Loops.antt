@@ -1,0 +1,226 @@
+-- One turn of each loop of this crate, on plain values. Going up from 0 to n, at place i: the answer for all places is that for those from i on.
+-- Going down from n: the cell in hand means the fold of the places from i on. Assumes nothing.
+use mathlib.Core.Path.{_≡_, refl, sym, ap, _∙_}
+use mathlib.Core.Bool.{Bool, true, false, not, cond, _&&_, _||_, and-assoc, and-true, and-false}
+use mathlib.Core.List.{List, [], _∷_}
+use Prim.Native.Nat.{ℕ, zero, suc, _+_, _-_, _≤_, _<_}
+use native.Mathlib.Nat.{not-suc-le-zero}
+use native.Mathlib.Numerals.{add-one}
+use native.Mathlib.Omega.{arith}
+use borrow.Author.Tests.{not-true, not-false, eq-eqb, ne-eqb}
+use lib.IntN.{ℤ}
+use lib.ListN.{length, set}
+use Rattle.tags.specs.Tags.{isPresent, lesserOf, greaterOf, lesserPresent, greaterPresent, _≤ₜ_}
+use Rattle.rules.specs.Model.{Tag, OptionalTag, NoTag, At}
+use Rattle.state.specs.Cells.{absent, isAbsent, optionalOf, cellOf, tagIn}
+use Rattle.state.specs.Walk.{allOf, anyOf, placeFrom, leastFrom, greatestFrom}
+use Rattle.state.specs.Parts.{cleared}
+use Rattle.table.specs.declared.Scanned.{Scanned}
+use Rattle.table.specs.declared.Scanned.the-variants.{Blocked, Waiting, Answered}
+
+-- ---- any walk over the places from i on
+
+module _ {A : Type 0} (walk : ℕ → ℕ → A) (n : ℕ) where
+  start : walk 0 n ≡ walk 0 (n - 0)
+  start = ap (walk 0) (omega arith)
+
+  more : (i : ℕ) → i < n → walk i (n - i) ≡ walk i (suc (n - (i + 1)))
+  more i h = ap (walk i) (omega arith)
+
+  done : (i : ℕ) → n ≤ i → walk i (n - i) ≡ walk i 0
+  done i h = ap (walk i) (omega arith)
+
+  back : (i : ℕ) → 0 < i → i ≤ n → walk (i - 1) (n - (i - 1)) ≡ walk (i - 1) (suc (n - i))
+  back i h k = ap (walk (i - 1)) (omega arith)
+
+-- ---- up: all, the first place
+
+pub all-start : (f : ℕ → Bool) (n : ℕ) → allOf f 0 n ≡ allOf f 0 (n - 0)
+all-start f = start (allOf f)
+
+pub place-start : (f : ℕ → Bool) (n : ℕ) → placeFrom f 0 n ≡ placeFrom f 0 (n - 0)
+place-start f = start (placeFrom f)
+
+module _ (f : ℕ → Bool) (n i : ℕ) (z : Bool) where
+  pub all-turn : (r : Bool) → z ≡ allOf f i (n - i) → i < n → r ≡ f i → not r ≡ false → z ≡ allOf f (i + 1) (n - (i + 1))
+  unfolding allOf
+  all-turn r p h e t = p ∙ more (allOf f) n i h ∙ rw (← e, not-false r t) refl
+
+  pub all-left : (r : Bool) → z ≡ allOf f i (n - i) → i < n → r ≡ f i → not r ≡ true → false ≡ z
+  unfolding allOf
+  all-left r p h e t = sym (p ∙ more (allOf f) n i h ∙ rw (← e, not-true r t) refl)
+
+  pub all-done : z ≡ allOf f i (n - i) → n ≤ i → true ≡ z
+  unfolding allOf
+  all-done p h = sym (p ∙ done (allOf f) n i h)
+
+module _ (f : ℕ → Bool) (n i z : ℕ) where
+  pub place-turn : z ≡ placeFrom f i (n - i) → i < n → f i ≡ false → z ≡ placeFrom f (i + 1) (n - (i + 1))
+  unfolding placeFrom
+  place-turn p h t = p ∙ more (placeFrom f) n i h ∙ rw t refl
+
+  pub place-found : z ≡ placeFrom f i (n - i) → i < n → f i ≡ true → i ≡ z
+  unfolding placeFrom
+  place-found p h t = sym (p ∙ more (placeFrom f) n i h ∙ rw t refl)
+
+  pub place-done : z ≡ placeFrom f i (n - i) → n ≤ i → i ≡ z
+  unfolding placeFrom
+  place-done p h = sym (p ∙ done (placeFrom f) n i h)
+
+pub ruleset walks = (all-start, all-turn, all-left, all-done)
+
+pub ruleset seeks = (place-start, place-turn, place-found, place-done, eq-eqb, ne-eqb)
+
+-- ---- up: the scan
+
+abbrev pub outcome : Bool → Bool → Scanned
+outcome b a = cond b Blocked (cond a Answered Waiting)
+
+-- whether a row blocks and whether it has answered, by what the code tests of it: it lags, it holds back, it has observed
+module _ {l lags : Bool} (holds observed : Bool) (e : l ≡ lags) where
+  pub row-ahead : l ≡ false → ((lags && holds) ≡ false) × ((not lags || observed) ≡ true)
+  row-ahead t = rw (← e, t) (refl, refl)
+
+  pub row-behind : {h o : Bool} (s : Bool) → l ≡ true → h ≡ holds → h ≡ false → o ≡ observed → o ≡ s
+      → ((lags && holds) ≡ false) × ((not lags || observed) ≡ s)
+  row-behind s t f u g v = rw (← e, t, ← f, u, ← g, v) (refl, refl)
+
+pub row-blocks : {l lags h holds : Bool} → l ≡ lags → l ≡ true → h ≡ holds → h ≡ true → (lags && holds) ≡ true
+row-blocks e t f u = rw (← e, t, ← f, u) refl
+
+pub scan-start : (b a : ℕ → Bool) (n : ℕ) → outcome (anyOf b 0 n) (allOf a 0 n) ≡ outcome (anyOf b 0 (n - 0)) (allOf a 0 (n - 0))
+scan-start b a = start (λ k m. outcome (anyOf b k m) (allOf a k m))
+
+-- w: all places before i have answered
+module _ (b a : ℕ → Bool) (n i : ℕ) (z : Scanned) (w : Bool) (p : z ≡ outcome (anyOf b i (n - i)) (w && allOf a i (n - i))) where
+  from-here : ℕ → ℕ → Scanned
+  from-here k m = outcome (anyOf b k m) (w && allOf a k m)
+
+  pub scan-blocked : i < n → b i ≡ true → Blocked ≡ z
+  unfolding anyOf from-here
+  scan-blocked h t = sym (p ∙ more from-here n i h ∙ rw t refl)
+
+  pub scan-turn : i < n → (s : Bool) → (b i ≡ false) × (a i ≡ s) → (v : Bool) → v ≡ (w && s)
+      → z ≡ outcome (anyOf b (i + 1) (n - (i + 1))) (v && allOf a (i + 1) (n - (i + 1)))
+  unfolding anyOf allOf from-here
+  scan-turn h s t v q = p ∙ more from-here n i h ∙ rw (t .0, t .1, q, and-assoc w s) refl
+
+  pub scan-done : n ≤ i → cond w Answered Waiting ≡ z
+  unfolding anyOf allOf from-here
+  scan-done h = sym (p ∙ done from-here n i h ∙ rw (and-true w) refl)
+
+-- ---- up: cells cleared
+
+pub clear-turn : (l : List ℕ) (i : ℕ) → i < length l → set (cleared i l) i 0 ≡ cleared (i + 1) l
+clear-turn l i h = go l i h ∙ rw add-one refl
+  where
+    go : (l : List ℕ) (i : ℕ) → i < length l → set (cleared i l) i 0 ≡ cleared (suc i) l
+    go [] i h = absurd (not-suc-le-zero h)
+    go (x ∷ l) zero h = refl
+    go (x ∷ l) (suc i) h = ap (λ t. 0 ∷ t) (go l i (omega arith))
+
+-- ---- down: the cell in hand means a fold of those present
+
+-- the cells of the completed tags
+abbrev pub completedIn : List ℤ → List ℤ → List ℕ → ℕ → Tag
+completedIn ss ns ms j = tagIn ss ns ms (32 + j)
+
+pub data Means : Tag → OptionalTag → Type 0 where
+  missing : Means absent NoTag
+  present : {t : Tag} → isAbsent t ≡ false → Means t (At t)
+
+means-cell : {t : Tag} {m : OptionalTag} → Means t m → t ≡ cellOf m
+means-cell missing = refl
+means-cell (present e) = refl
+
+-- a fold that picks one of any two present
+abbrev Walk : Type 0
+Walk = (ℕ → OptionalTag) → ℕ → ℕ → OptionalTag
+
+pub record Folds (pick : Tag → Tag → Tag) (join : OptionalTag → OptionalTag → OptionalTag) (from : Walk) : Type 0 where
+  pub first : (m : OptionalTag) → join NoTag m ≡ m
+  pub only : (a : Tag) → join (At a) NoTag ≡ At a
+  pub both : (a b : Tag) → join (At a) (At b) ≡ At (pick a b)
+  pub kept : (a b : Tag) → isAbsent a ≡ false → isAbsent b ≡ false → isAbsent (pick a b) ≡ false
+  pub none : (f : ℕ → OptionalTag) (k : ℕ) → from f k 0 ≡ NoTag
+  pub next : (f : ℕ → OptionalTag) (k n : ℕ) → from f k (suc n) ≡ join (f k) (from f (k + 1) n)
+
+either-kept : (x : Bool) (a b : Tag) → isAbsent a ≡ false → isAbsent b ≡ false → isAbsent (cond x a b) ≡ false
+either-kept true a b p q = p
+either-kept false a b p q = q
+
+pub least : Folds lesserOf lesserPresent leastFrom
+unfolding leastFrom
+least =
+    record {
+      first = λ m. refl;
+      only = λ a. refl;
+      both = λ a b. refl;
+      kept = λ a b p q. either-kept (a ≤ₜ b) a b p q;
+      none = λ f k. refl;
+      next = λ f k n. refl;
+    }
+
+pub greatest : Folds greaterOf greaterPresent greatestFrom
+unfolding greatestFrom
+greatest =
+    record {
+      first = λ m. refl;
+      only = λ a. refl;
+      both = λ a b. refl;
+      kept = λ a b p q. either-kept (a ≤ₜ b) b a q p;
+      none = λ f k. refl;
+      next = λ f k n. refl;
+    }
+
+module _ {pick : Tag → Tag → Tag} {join : OptionalTag → OptionalTag → OptionalTag} {from : Walk} (w : Folds pick join from) where
+  means-join : (c acc : Tag) (m : OptionalTag) → Means acc m
+      → Means (cond (isAbsent c) acc (cond (isAbsent acc) c (pick c acc))) (join (optionalOf c) m)
+  means-join c acc m h = go (isAbsent c) refl h
+    where
+      go : {acc : Tag} {m : OptionalTag} (x : Bool) → isAbsent c ≡ x → Means acc m
+          → Means (cond x acc (cond (isAbsent acc) c (pick c acc))) (join (cond x NoTag (At c)) m)
+      go {acc} {m} true e h = rw (w .first m) h
+      go false e missing = rw (w .only c) (present e)
+      go {acc} false e (present d) = rw (d, w .both c acc) (present (w .kept c acc e d))
+
+  module _ (f : ℕ → Tag) (n : ℕ) where
+    abbrev over : ℕ → ℕ → OptionalTag
+    over = from (λ j. optionalOf (f j))
+
+    pub fold-start : Means absent (over n (n - n))
+    fold-start = rw (done over n n (omega arith), w .none) missing
+
+    pub fold-back : (i : ℕ) (acc c r : Tag) → 0 < i → i ≤ n → Means acc (over i (n - i)) → c ≡ f (i - 1)
+        → r ≡ cond (isAbsent c) acc (cond (isAbsent acc) c (pick c acc)) → Means r (over (i - 1) (n - (i - 1)))
+    fold-back i acc c r h k p e q = let b : i - 1 + 1 ≡ i = omega arith in rw (q, back over n i h k, w .next, b, ← e) (means-join c acc _ p)
+
+    pub fold-done : (i : ℕ) (acc : Tag) → i ≤ 0 → Means acc (over i (n - i)) → acc ≡ cellOf (over 0 n)
+    fold-done i acc h p = let e : i ≡ 0 = omega arith in means-cell p ∙ rw (e, ← start over n) refl
+
+-- ---- down: every place has a tag
+
+module _ (f : ℕ → Tag) (n : ℕ) where
+  abbrev has : ℕ → Bool
+  has j = isPresent (optionalOf (f j))
+
+  pub every-start : allOf has n (n - n) ≡ true
+  unfolding allOf
+  every-start = done (allOf has) n n (omega arith)
+
+  pub every-done : (i : ℕ) → i ≤ 0 → allOf has i (n - i) ≡ true → allOf has 0 n ≡ true
+  every-done i h p = let e : i ≡ 0 = omega arith in start (allOf has) n ∙ rw e at p
+
+  module _ (i : ℕ) (c : Tag) (r : Bool) (h : 0 < i) (k : i ≤ n) (e : c ≡ f (i - 1)) (q : r ≡ isAbsent c) where
+    pub every-back : allOf has i (n - i) ≡ true → r ≡ false → allOf has (i - 1) (n - (i - 1)) ≡ true
+    unfolding allOf
+    every-back p t = let b : i - 1 + 1 ≡ i = omega arith in back (allOf has) n i h k ∙ rw (← e, ← q, t, b) p
+
+    -- one place has none
+    pub every-lacks : r ≡ true → allOf has 0 n ≡ false
+    unfolding allOf
+    every-lacks t = down (i - 1) (omega arith) (back (allOf has) n i h k ∙ rw (← e, ← q, t) refl)
+      where
+        down : (j : ℕ) → j < n → allOf has j (n - j) ≡ false → allOf has 0 n ≡ false
+        down zero h p = start (allOf has) n ∙ p
+        down (suc j) h p = down j (omega arith) (more (allOf has) n j (omega arith) ∙ rw (add-one, p) (and-false (has j)))
