@@ -1,0 +1,309 @@
+// Refusal 27 (document 01, "Ceilings and refusals"): whether the numbers that a call is given hold a state of document 01, and a sound one.
+// The Rust has no such test: its types hold nothing else. The state is lent piece by piece, so that no column is copied.
+// Every function is total and refuses nothing.
+ghost use mathlib.Core.Path.{_≡_};
+ghost use mathlib.Core.Bool.{_&&_};
+ghost use Prim.Native.Nat.{_≤_, _<_};
+ghost use lib.Dec.{leb, ltb};
+ghost use Rattle.tags.specs.Tags.{_≡ₜ_};
+ghost use Rattle.rules.specs.Calls.{isSound};
+ghost use Rattle.state.specs.Cells.{absent, isCell, isZeroUnless, tagIn};
+ghost use Rattle.state.specs.View.{view, represents};
+ghost use Rattle.state.specs.declared.FederateCoordinationState.{FederateCoordinationState as Held};
+ghost use Rattle.soundness.specs.Lent.{Lent};
+ghost use Rattle.soundness.specs.Sound.{soundPublication, soundCoordination, soundInputs, soundCompletion, soundAcquisition, soundGate};
+ghost use Rattle.soundness.specs.Sound.{soundParts, soundRest, soundAt, soundPlaces};
+use state::ABSENT;
+use state::COMPLETED;
+use state::Completion;
+use state::Coordination;
+use state::Gate;
+use state::STARTED;
+use tags::Tag;
+
+fn count_is_sound(count: usize) -> bool
+    ensures { λ r. ⌜ r ≡ (ltb 0 count && leb count 32) ⌝ }
+{
+    if count == 0 {
+        return false;
+    }
+    count <= 32
+}
+
+fn zero_unless(present: bool, number: u64) -> bool
+    ensures { λ r. ⌜ r ≡ isZeroUnless present number ⌝ }
+{
+    if present {
+        return true;
+    }
+    number == 0
+}
+
+fn is_mark(t: Tag) -> bool
+    ensures { λ r. ⌜ r ≡ (t ≡ₜ absent) ⌝ }
+{
+    let mark = ABSENT;
+    if t.nanoseconds != mark.nanoseconds {
+        return false;
+    }
+    if t.seconds != mark.seconds {
+        return false;
+    }
+    t.microstep == mark.microstep
+}
+
+// Without nanoseconds a tag is proper whatever its seconds.
+fn is_cell(t: Tag) -> bool
+    ensures { λ r. ⌜ r ≡ isCell t ⌝ }
+{
+    if t.nanoseconds == 0 {
+        return true;
+    }
+    if is_mark(t) {
+        return true;
+    }
+    tags::is_proper_time(t.seconds, t.nanoseconds)
+}
+
+fn cell_at<'a>(
+    seconds: &'a [i64; 96],
+    nanoseconds: &'a [i32; 96],
+    microsteps: &'a [u64; 96],
+    k: usize,
+) -> bool
+    requires { ⌜ k < 96 ⌝ }
+    ensures { λ r. ⌜ r ≡ isCell (tagIn (now (seconds .entry)) (now (nanoseconds .entry)) (now (microsteps .entry)) k) ⌝ }
+{
+    let t = Tag {
+        seconds: seconds[k],
+        nanoseconds: nanoseconds[k],
+        microstep: microsteps[k],
+    };
+    is_cell(t)
+}
+
+fn place_is_sound<'a>(
+    observation: &'a [u8; 32],
+    acknowledged: &'a [bool; 32],
+    completion_observed: &'a [u64; 32],
+    seconds: &'a [i64; 96],
+    nanoseconds: &'a [i32; 96],
+    microsteps: &'a [u64; 96],
+    i: usize,
+) -> bool
+    requires { ⌜ i < 32 ⌝ }
+    ensures { λ r. ⌜ r ≡ soundAt (now (observation .entry)) (now (acknowledged .entry)) (now («completion_observed» .entry)) (now (seconds .entry)) (now (nanoseconds .entry)) (now (microsteps .entry)) i ⌝ }
+{
+    if 3 < observation[i] {
+        return false;
+    }
+    if !zero_unless(acknowledged[i], completion_observed[i]) {
+        return false;
+    }
+    if !cell_at(seconds, nanoseconds, microsteps, i) {
+        return false;
+    }
+    if !cell_at(seconds, nanoseconds, microsteps, COMPLETED + i) {
+        return false;
+    }
+    cell_at(seconds, nanoseconds, microsteps, STARTED + i)
+}
+
+// The places are walked from the last, so that one test bounds an index and has it below the next.
+fn places_are_sound<'a>(
+    enclaves: &'a [u32; 32],
+    observation: &'a [u8; 32],
+    acknowledged: &'a [bool; 32],
+    completion_observed: &'a [u64; 32],
+    seconds: &'a [i64; 96],
+    nanoseconds: &'a [i32; 96],
+    microsteps: &'a [u64; 96],
+    count: usize,
+) -> bool
+    requires { ⌜ count ≤ 32 ⌝ }
+    ensures { λ r. ⌜ r ≡ soundPlaces (now (enclaves .entry)) (now (observation .entry)) (now (acknowledged .entry)) (now («completion_observed» .entry)) (now (seconds .entry)) (now (nanoseconds .entry)) (now (microsteps .entry)) count ⌝ }
+{
+    let mut above: u32 = 4096;
+    let mut i = count;
+    while 0 < i {
+        i -= 1;
+        let index = enclaves[i];
+        if above <= index {
+            return false;
+        }
+        if !place_is_sound(
+            observation,
+            acknowledged,
+            completion_observed,
+            seconds,
+            nanoseconds,
+            microsteps,
+            i,
+        ) {
+            return false;
+        }
+        above = index;
+    }
+    true
+}
+
+fn are_cells(a: Tag, b: Tag) -> bool
+    ensures { λ r. ⌜ r ≡ (isCell a && isCell b) ⌝ }
+{
+    if is_cell(a) {
+        return is_cell(b);
+    }
+    false
+}
+
+fn are_marks(a: Tag, b: Tag) -> bool
+    ensures { λ r. ⌜ r ≡ (a ≡ₜ absent && b ≡ₜ absent) ⌝ }
+{
+    if is_mark(a) {
+        return is_mark(b);
+    }
+    false
+}
+
+fn publication_is_sound(pending: bool, revision: u64, next_event: Tag, grant_horizon: Tag) -> bool
+    ensures { λ r. ⌜ r ≡ soundPublication pending revision «next_event» «grant_horizon» ⌝ }
+{
+    if pending {
+        return are_cells(next_event, grant_horizon);
+    }
+    if revision == 0 {
+        return are_marks(next_event, grant_horizon);
+    }
+    false
+}
+
+fn coordination_is_sound(coordination: Coordination) -> bool
+    ensures { λ r. ⌜ r ≡ soundCoordination coordination ⌝ }
+{
+    if 6 < coordination.phase {
+        return false;
+    }
+    if !zero_unless(coordination.authorized, coordination.idle_authorization) {
+        return false;
+    }
+    let next_event = coordination.pending_next_event;
+    let grant_horizon = coordination.pending_grant_horizon;
+    publication_is_sound(
+        coordination.pending,
+        coordination.pending_revision,
+        next_event,
+        grant_horizon,
+    )
+}
+
+// Both inputs are there or neither.
+fn inputs_are_sound(first: Tag, last: Tag) -> bool
+    ensures { λ r. ⌜ r ≡ soundInputs first last ⌝ }
+{
+    if is_mark(first) {
+        return is_mark(last);
+    }
+    if tags::is_proper(first) {
+        return tags::is_proper(last);
+    }
+    false
+}
+
+fn completion_is_sound(completion: Completion) -> bool
+    ensures { λ r. ⌜ r ≡ soundCompletion completion ⌝ }
+{
+    let frontier = completion.completed_frontier;
+    let probe = completion.completion_probe;
+    let first = completion.first_input;
+    let last = completion.last_input;
+    if are_cells(frontier, probe) {
+        return inputs_are_sound(first, last);
+    }
+    false
+}
+
+fn acquisition_is_sound(revision: u64, granted: Tag) -> bool
+    ensures { λ r. ⌜ r ≡ soundAcquisition revision granted ⌝ }
+{
+    if is_mark(granted) {
+        return revision == 0;
+    }
+    tags::is_proper(granted)
+}
+
+fn gate_is_sound(gate: Gate) -> bool
+    ensures { λ r. ⌜ r ≡ soundGate gate ⌝ }
+{
+    let input_horizon = gate.input_horizon;
+    let granted = gate.granted;
+    let stored = gate.stored_granted;
+    if are_cells(input_horizon, granted) {
+        return acquisition_is_sound(gate.stored_revision, stored);
+    }
+    false
+}
+
+fn rest_is_sound(grant_horizon: Tag, failed: bool, first_failure: u32, lifecycle: u8) -> bool
+    ensures { λ r. ⌜ r ≡ soundRest «grant_horizon» failed «first_failure» lifecycle ⌝ }
+{
+    if 2 < lifecycle {
+        return false;
+    }
+    if is_cell(grant_horizon) {
+        return zero_unless(failed, first_failure as u64);
+    }
+    false
+}
+
+fn parts_are_sound(coordination: Coordination, completion: Completion, gate: Gate) -> bool
+    ensures { λ r. ⌜ r ≡ soundParts coordination completion gate ⌝ }
+{
+    if !coordination_is_sound(coordination) {
+        return false;
+    }
+    if !completion_is_sound(completion) {
+        return false;
+    }
+    gate_is_sound(gate)
+}
+
+// Whether these are the pieces of a state that holds one of document 01 and is sound.
+pub fn is_sound<'a>(
+    enclaves: &'a [u32; 32],
+    observation: &'a [u8; 32],
+    acknowledged: &'a [bool; 32],
+    completion_observed: &'a [u64; 32],
+    seconds: &'a [i64; 96],
+    nanoseconds: &'a [i32; 96],
+    microsteps: &'a [u64; 96],
+    count: usize,
+    coordination: Coordination,
+    completion: Completion,
+    gate: Gate,
+    grant_horizon: Tag,
+    failed: bool,
+    first_failure: u32,
+    lifecycle: u8,
+) -> bool
+    ensures { λ r. ⌜ ((s : Held) → Lent s (now (enclaves .entry)) (now (observation .entry)) (now (acknowledged .entry)) (now («completion_observed» .entry)) (now (seconds .entry)) (now (nanoseconds .entry)) (now (microsteps .entry)) count coordination completion gate «grant_horizon» failed «first_failure» lifecycle → r ≡ (represents s && isSound (view s))) ⌝ }
+{
+    if !count_is_sound(count) {
+        return false;
+    }
+    if !parts_are_sound(coordination, completion, gate) {
+        return false;
+    }
+    if !rest_is_sound(grant_horizon, failed, first_failure, lifecycle) {
+        return false;
+    }
+    places_are_sound(
+        enclaves,
+        observation,
+        acknowledged,
+        completion_observed,
+        seconds,
+        nanoseconds,
+        microsteps,
+        count,
+    )
+}
