@@ -1,0 +1,5 @@
+pub mod Halves
+pub mod Neat
+pub mod Activation
+pub mod Enlisting
+pub mod Announcing

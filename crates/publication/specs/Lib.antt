@@ -1,0 +1,2 @@
+pub mod Announce
+pub mod Revise
