@@ -1,5 +1,5 @@
 -- What `announce` answers is Publish's second half in every state that has what it was given. All published and the least candidate are walks over the
--- columns; the least candidate is proper in a sound state, so that its cell holds it; the phase is told by its number. Assumes nothing.
+-- columns; the least candidate is one that a cell holds, so that its own cell holds it; the phase is told by its number. Assumes nothing.
 use mathlib.Core.Path.{_≡_, refl, sym, ap, _∙_}
 use mathlib.Core.Bool.{Bool, true, false, not, cond}
 use mathlib.Core.List.{List, [], _∷_}
@@ -9,22 +9,19 @@ use lib.Dec.{T, eqb}
 use lib.IntN.{ℤ}
 use lib.ListN.{getD}
 use borrow.Author.Tests.{not-false, not-true}
-use Rattle.tags.specs.Tags.{properIfPresent}
 use Rattle.records.specs.Numbers.{phaseNumber}
 use Rattle.rules.specs.Model.{Active, At, AwaitingIdleConfirmation, CoordinatedTermination, CoordinationPhase, KeepAlive, LifecyclePolicy, NoTag, OptionalTag, Parked, Parking, Probe, Probing, Rechecking, Stopped, Tag, TerminateWhenIdle}
 use Rattle.rules.specs.Publication.{announce, idlePhase, idleProbe, leastCandidate}
-use Rattle.rules.proofs.Lists.{and-left}
 use Rattle.rules.proofs.Invariants.{and-intro}
-use Rattle.rules.proofs.Sound.{announce-keeps-sound, sound-proper-publication}
 use Rattle.state.specs.declared.FederateCoordinationState.{FederateCoordinationState as Held}
 use Rattle.state.specs.declared.Coordination.{Coordination}
 use Rattle.state.specs.declared.Gate.{Gate}
 use Rattle.state.specs.Walk.{allOf, leastFrom}
 use Rattle.state.specs.Cells.{absent, cellOf, isNeat, optionalOf, phaseOf, policyOf, tagIn}
-use Rattle.state.specs.View.{view}
+use Rattle.state.specs.View.{view, represents}
 use Rattle.state.specs.Parts.{withCoordination, withGate}
-use Rattle.state.specs.Decides.{Good}
-use Rattle.state.proofs.Rows.{all-rows, least-rows, neat-cell, optional-cell}
+use Rattle.state.proofs.Kept.{least-kept, kept-neat}
+use Rattle.state.proofs.Rows.{all-rows, least-rows, neat-cell}
 use Rattle.state.proofs.Neat.{coordination-parts, coordination-whole, gate-parts, gate-whole, neat-coordination, neat-gate, neat-horizon}
 use Rattle.publication.specs.Announce.{Announces, Has, announcement}
 
@@ -75,13 +72,7 @@ announced c t h l = withPending c (phaseNumber (idlePhase (optionalOf t) (policy
 abbrev droppedOf : Gate → Gate
 droppedOf g = record { «input_horizon» = g .«input_horizon»; «stored_revision» = 0; «stored_granted» = absent; granted = g .granted }
 
-module _ (s : Held) (good : Good s) where
-  least-proper : T (properIfPresent (leastCandidate (view s)))
-  unfolding announce
-  least-proper =
-      and-left (properIfPresent (leastCandidate (view s))) (properIfPresent (view s .grantHorizon))
-      (sound-proper-publication (announce 0 false (view s) .state) (announce-keeps-sound 0 false (view s) (good .sound)))
-
+module _ (s : Held) (whole : T (represents s)) where
   announced-step : (e : ℕ) (resume : Bool) (t : Tag) → optionalOf t ≡ leastCandidate (view s)
       → let c = announced (s .coordination) t (s .«grant_horizon») (s .lifecycle) in announce e resume (view s) ≡ record { state = view (withGate (droppedOf (s .gate)) (withCoordination c s)); actions = announcement e resume c }
   unfolding announce
@@ -92,8 +83,8 @@ module _ (s : Held) (good : Good s) where
   announces-none x asked h = record {
     step = λ e resume. rw (all-rows s (λ p. p .published) ∙ sym asked ∙ h) refl;
     granted = refl;
-    neat = neat-coordination s (good .neat);
-    tidy = neat-gate s (good .neat);
+    neat = neat-coordination s whole;
+    tidy = neat-gate s whole;
   }
 
   announces-all : (x : Bool) → x ≡ allOf (λ j. getD (s .published) j false) 0 (s .count) → x ≡ true
@@ -104,34 +95,37 @@ module _ (s : Held) (good : Good s) where
     granted = refl;
     neat = coordination-whole (announced (s .coordination) t (s .«grant_horizon») (s .lifecycle)) (record {
       phase = phase-number-bound (idlePhase (optionalOf t) (policyOf (s .lifecycle)));
-      authorization = coordination-parts (s .coordination) (neat-coordination s (good .neat)) .authorization;
-      publication = and-intro (isNeat t) (isNeat (s .«grant_horizon»)) (rw cell (neat-cell (leastCandidate (view s)) least-proper)) (neat-horizon s (good .neat));
+      authorization = coordination-parts (s .coordination) (neat-coordination s whole) .authorization;
+      publication = and-intro (isNeat t) (isNeat (s .«grant_horizon»)) (rw least (kept-neat cells keeps)) (neat-horizon s whole);
     });
     tidy = gate-whole (droppedOf (s .gate)) (record {
-      inputHorizon = gate-parts (s .gate) (neat-gate s (good .neat)) .inputHorizon;
-      granted = gate-parts (s .gate) (neat-gate s (good .neat)) .granted;
+      inputHorizon = gate-parts (s .gate) (neat-gate s whole) .inputHorizon;
+      granted = gate-parts (s .gate) (neat-gate s whole) .granted;
       stored = neat-cell NoTag tt;
       revision = tt;
     });
   }
     where
-      cell : t ≡ cellOf (leastCandidate (view s))
-      cell = least ∙ ap cellOf (sym (least-rows s (λ p. p .candidate)))
+      cells : OptionalTag
+      cells = leastFrom (λ j. optionalOf (tagIn (s .seconds) (s .nanoseconds) (s .microsteps) j)) 0 (s .count)
+
+      keeps : optionalOf (cellOf cells) ≡ cells
+      keeps = least-kept (λ j. tagIn (s .seconds) (s .nanoseconds) (s .microsteps) j) 0 (s .count)
 
       held : optionalOf t ≡ leastCandidate (view s)
-      held = ap optionalOf cell ∙ optional-cell (leastCandidate (view s)) least-proper
+      held = ap optionalOf least ∙ keeps ∙ sym (least-rows s (λ p. p .candidate))
 
 -- ---- in every state that has what was given
 
 module _ (ps : List Bool) (ss ns : List ℤ) (ms : List ℕ) (n : ℕ) (c : Coordination) (g : Gate) (h : Tag) (l : ℕ) (x : Bool)
     (asked : x ≡ allOf (λ j. getD ps j false) 0 n) where
-  pub announces-not : not x ≡ true → (s : Held) → Good s → Has s ps ss ns ms n c g h l → Announces s (record { announces = false; coordination = c; gate = g })
-  announces-not q s good has =
-      rw (← has .coordination, ← has .gate) (announces-none s good x (rw (has .published, has .count) asked) (not-true x q))
+  pub announces-not : not x ≡ true → (s : Held) → T (represents s) → Has s ps ss ns ms n c g h l → Announces s (record { announces = false; coordination = c; gate = g })
+  announces-not q s whole has =
+      rw (← has .coordination, ← has .gate) (announces-none s whole x (rw (has .published, has .count) asked) (not-true x q))
 
   pub announces-now : not x ≡ false → (t : Tag) → t ≡ cellOf (leastFrom (λ j. optionalOf (tagIn ss ns ms j)) 0 n)
-      → (p : ℕ) → p ≡ phaseNumber (idlePhase (optionalOf t) (policyOf l)) → (d : Gate) → d ≡ droppedOf g → (s : Held) → Good s → Has s ps ss ns ms n c g h l
+      → (p : ℕ) → p ≡ phaseNumber (idlePhase (optionalOf t) (policyOf l)) → (d : Gate) → d ≡ droppedOf g → (s : Held) → T (represents s) → Has s ps ss ns ms n c g h l
       → Announces s (record { announces = true; coordination = withPending c p t h; gate = d })
-  announces-now q t least p phase d drops s good has =
+  announces-now q t least p phase d drops s whole has =
       rw (phase, drops, ← has .coordination, ← has .gate, ← has .horizon, ← has .lifecycle)
-      (announces-all s good x (rw (has .published, has .count) asked) (not-false x q) t (rw (has .seconds, has .nanoseconds, has .microsteps, has .count) least))
+      (announces-all s whole x (rw (has .published, has .count) asked) (not-false x q) t (rw (has .seconds, has .nanoseconds, has .microsteps, has .count) least))

@@ -10,7 +10,8 @@ ghost use Rattle.rules.specs.Publication.{activateOf, publishOf, repeated, idle
 ghost use Rattle.state.specs.declared.FederateCoordinationState.{FederateCoordinationState as Held};
 ghost use Rattle.state.specs.declared.Next.the-variants.{Says};
 ghost use Rattle.state.specs.Cells.{absent, optionalOf, phaseOf, policyOf};
-ghost use Rattle.state.specs.Decides.{Decides, Good, neatParts, saidOf};
+ghost use Rattle.state.specs.View.{represents};
+ghost use Rattle.state.specs.Decides.{Decides, neatParts, saidOf};
 ghost use Rattle.publication.specs.Announce.{Has, Announces};
 ghost use Rattle.publication.specs.Revise.{revisedOf, unprobedOf};
 use state::ABSENT;
@@ -183,7 +184,7 @@ pub fn announce<'a>(
     lifecycle: u8,
 ) -> Announced
     requires { ⌜ count ≤ 32 ⌝ }
-    ensures { λ r. ⌜ ((s : Held) → Good s → Has s (now (published .entry)) (now (seconds .entry)) (now (nanoseconds .entry)) (now (microsteps .entry)) count coordination gate horizon lifecycle → Announces s r) ⌝ }
+    ensures { λ r. ⌜ ((s : Held) → T (represents s) → Has s (now (published .entry)) (now (seconds .entry)) (now (nanoseconds .entry)) (now (microsteps .entry)) count coordination gate horizon lifecycle → Announces s r) ⌝ }
 {
     if !table::all_set(published, count) {
         return Announced {

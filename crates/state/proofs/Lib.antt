@@ -1,5 +1,6 @@
 pub mod Rows
 pub mod Neat
+pub mod Kept
 pub mod Columns
 pub mod Round
 pub mod Put
