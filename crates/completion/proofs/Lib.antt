@@ -1,0 +1,4 @@
+pub mod Cells
+pub mod Steps
+pub mod Halves
+pub mod Answers
