@@ -27,7 +27,7 @@ use Rattle.state.specs.Decides.{Decides, Good, conclusion, halfway, neatParts, 
 use Rattle.state.proofs.Rows.{found, neat-cell, optional-cell, proper-present}
 use Rattle.state.proofs.Neat.{neat-place, place-parts}
 use Rattle.publication.specs.Revise.{revisedOf, unprobedOf}
-use Rattle.publication.proofs.Halves.{Goes, active-is, decides-by, rows-forgotten, rows-only, saying, stopped-is, view-kept}
+use Rattle.publication.proofs.Halves.{Goes, active-is, decides-by, goes-nothing, rows-forgotten, rows-only, saying, stopped-is, view-kept}
 use Rattle.publication.proofs.Neat.{neat-revised, neat-unprobed, parts-of, parts-whole, row-of, row-whole}
 
 -- ---- a candidate unchanged
@@ -121,8 +121,8 @@ enlist-is e m resume v = refl
 
 module _ (m : OptionalTag) (e : ℕ) (s : Held) (i : ℕ) (g : Good s) (d : Seated s e i) where
   stopped-step : s .coordination .phase ≡ 6 → Goes (publishOf e m) e (saying 0) s i
-  unfolding publishOf conclusion
-  stopped-step h = rw (stopped-is s g ∙ ap (λ n. eqb n 6) h) (ap (emit []) (sym (view-kept s e i g d)))
+  unfolding publishOf
+  stopped-step h = goes-nothing (publishOf e m) e s i g d (rw (stopped-is s g ∙ ap (λ n. eqb n 6) h) refl)
 
   running-step : Runs (partsOf s i) → publishOf e m (view s) ≡ publishBy e m (view s) (some (rowAt s i))
   unfolding publishOf

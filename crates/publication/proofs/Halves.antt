@@ -10,7 +10,7 @@ use borrow.Author.Tests.{eqb-true, eqb-false}
 use Rattle.records.specs.Numbers.{phaseNumber}
 use Rattle.rules.specs.Model.{Active, Participant, State, Step}
 use Rattle.rules.specs.Set.{withParticipants}
-use Rattle.rules.specs.Walk.{at, is, isStopped}
+use Rattle.rules.specs.Walk.{at, is, isStopped, quiet}
 use Rattle.rules.specs.Publication.{forget}
 use Rattle.rules.proofs.Sound.{sound-number}
 use Rattle.state.specs.declared.FederateCoordinationState.{FederateCoordinationState as Held}
@@ -84,6 +84,10 @@ saying k p = record { parts = p; forgets = false; next = Says k }
 -- in s, with enclave e at place i, the rule is d and what d goes on with
 abbrev pub Goes : (State → Step) → ℕ → (Parts → Decided) → Held → ℕ → Type 0
 Goes rule e d s i = rule (view s) ≡ conclusion e (d (partsOf s i) .next) (view (halfway s i (d (partsOf s i))))
+
+pub goes-nothing : (rule : State → Step) (e : ℕ) (s : Held) (i : ℕ) → Good s → Seated s e i → rule (view s) ≡ quiet (view s) → Goes rule e (saying 0) s i
+unfolding conclusion
+goes-nothing rule e s i g d h = h ∙ ap quiet (sym (view-kept s e i g d))
 
 pub decides-by : (rule : State → Step) (e : ℕ) (C : Parts → Type 0) (d : Parts → Decided)
     → ((s : Held) (i : ℕ) → Good s → Seated s e i → C (partsOf s i) → Goes rule e d s i) → (p : Parts) → C p → Decides rule e p (d p)
