@@ -1,0 +1,6 @@
+pub mod Message
+pub mod Scheduler
+pub mod Speaking
+pub mod Refusing
+pub mod Taking
+pub mod Undo

@@ -1,0 +1,97 @@
+-- A scheduler message, taken: its own rule in two halves, then the completion step, give `takeStep` of the rules, and the state with the parts stored is
+-- `put` of its state. The state between is sound because the rules keep it so. Assumes nothing.
+use mathlib.Core.Path.{_≡_, refl, sym, ap, _∙_, subst}
+use mathlib.Core.Bool.{false, _&&_}
+use mathlib.Core.List.{_++_}
+use Prim.Native.Nat.{ℕ, _+_, _≤_, _<_}
+use native.Mathlib.Omega.{arith}
+use lib.Dec.{T}
+use lib.ListN.{getD}
+use Rattle.tags.specs.Tags.{properIfPresent}
+use Rattle.records.specs.declared.SchedulerMessage.{SchedulerMessage}
+use Rattle.rules.specs.Model.{Step}
+use Rattle.rules.specs.Calls.{facts, also, thenAdvance, ownStep, takeStep, isSound, isSpent}
+use Rattle.rules.proofs.Sound.{own-keeps-sound, sound-number}
+use Rattle.state.specs.declared.FederateCoordinationState.{FederateCoordinationState as Held}
+use Rattle.state.specs.declared.Decided.{Decided}
+use Rattle.state.specs.View.{view, put, represents}
+use Rattle.state.specs.Parts.{Sized, partsOf, withCoordination, withCompletion, withGate}
+use Rattle.state.specs.Decides.{Good, Decides, neatParts, halfway}
+use Rattle.state.proofs.Rows.{length-rows}
+use Rattle.state.proofs.Neat.{neat-gate, neat-rebuilt, neat-with-coordination, neat-with-completion, neat-with-gate}
+use Rattle.state.proofs.Put.{Beyond, beyond-rebuilt, beyond-trans, beyond-sized, beyond-columns, holds-is-put}
+use Rattle.completion.specs.Advance.{sayings, Advances}
+use Rattle.completion.specs.declared.Advanced.{Advanced}
+use Rattle.dispatch.specs.Messages.{callOf, enclaveOf, tagOf, actionsOf, Concludes}
+use Rattle.dispatch.specs.declared.Concluded.{Concluded}
+use Rattle.federate.proofs.Message.{is-message, message-proper, Sits}
+
+-- how many participants a good state has
+pub good-number : (s : Held) → Good s → (1 ≤ s .count) × (s .count ≤ 32)
+good-number s g = let n = sound-number (view s) (g .sound) in let l = length-rows s in (omega arith, omega arith)
+
+-- the state after the message's own rule
+abbrev pub ownEnd : Held → ℕ → Decided → Concluded → Held
+ownEnd s i d k = withGate (k .gate) (withCompletion (k .completion) (withCoordination (k .coordination) (halfway s i d)))
+
+-- the state after the completion step
+abbrev pub wholeEnd : Held → ℕ → Decided → Concluded → Advanced → Held
+wholeEnd s i d k a = withCompletion (a .completion) (ownEnd s i d k)
+
+-- the first half leaves a state that is of its lengths and represents one
+pub record Fair (s : Held) : Type 0 where
+  pub sized : Sized s
+  pub neat : T (represents s)
+
+module _ (s : Held) (i : ℕ) (d : Decided) (good : Good s) (here : i < s .count) (neat : T (neatParts (d .parts))) where
+  pub halfway-beyond : Beyond s (halfway s i d)
+  halfway-beyond = beyond-rebuilt s i (d .parts) (d .forgets) (s .gate) (good .sized) (good-number s good .1) here
+
+  pub halfway-fair : Fair (halfway s i d)
+  halfway-fair = record {
+    sized = beyond-sized s (halfway s i d) halfway-beyond (good .sized);
+    neat = neat-rebuilt s i (d .parts) (d .forgets) (s .gate) (good .sized) (good-number s good .1) (good .neat) neat (neat-gate s (good .neat));
+  }
+
+module _ (s : Held) (m : SchedulerMessage) (i : ℕ) (d : Decided) (k : Concluded) (good : Good s) (place : Sits (enclaveOf m) s i) (proper : T (properIfPresent (tagOf m)))
+    (decides : Decides (ownStep (callOf m)) (getD (s .enclaves) i 0) (partsOf s i) d) (neat : T (neatParts (d .parts)))
+    (concludes : Concludes (halfway s i d) (getD (s .enclaves) i 0) (d .next) k) where
+  pub own-is : ownStep (callOf m) (view s) ≡ record { state = view (ownEnd s i d k); actions = actionsOf (getD (s .enclaves) i 0) (k .said) (k .coordination) }
+  own-is = decides s i good (place .seat) refl ∙ concludes .step
+
+  own-beyond : Beyond s (ownEnd s i d k)
+  own-beyond =
+      beyond-trans s (halfway s i d) (ownEnd s i d k) (halfway-beyond s i d good (place .seat .within) neat)
+      (beyond-columns (halfway s i d) (ownEnd s i d k) refl refl refl refl refl refl refl refl refl)
+
+  own-neat : T (represents (ownEnd s i d k))
+  own-neat =
+      let h = halfway s i d in
+      let c = withCoordination (k .coordination) h in
+      let p = neat-with-coordination h (halfway-fair s i d good (place .seat .within) neat .neat) (k .coordination) (concludes .coordination) in
+      let q = neat-with-completion c p (k .completion) (concludes .completion) in
+      neat-with-gate (withCompletion (k .completion) c) q (k .gate) (concludes .gate)
+
+  pub own-good : Good (ownEnd s i d k)
+  own-good = record {
+    sized = beyond-sized s (ownEnd s i d k) own-beyond (good .sized);
+    neat = own-neat;
+    sound = subst (λ (o : Step). T (isSound (o .state))) own-is (own-keeps-sound (callOf m) (view s) (good .sound) (rw (message-proper m) proper));
+  }
+
+  module _ (a : Advanced) (advances : Advances (ownEnd s i d k) a) where
+    pub spent-is : (facts (callOf m) .message && isSpent (ownStep (callOf m) (view s) .state)) ≡ a .spent
+    spent-is = rw (is-message m) (ap (λ (o : Step). isSpent (o .state)) own-is ∙ sym (advances .spent))
+
+    module _ (free : a .spent ≡ false) where
+      pub step-is : takeStep (callOf m) (view s) ≡ record { state = view (wholeEnd s i d k a); actions = actionsOf (getD (s .enclaves) i 0) (k .said) (k .coordination) ++ sayings (a .saying) (ownEnd s i d k) a }
+      unfolding takeStep
+      step-is = rw (is-message m) (ap thenAdvance own-is ∙ ap (λ (o : Step). also (record { state = view (ownEnd s i d k); actions = actionsOf (getD (s .enclaves) i 0) (k .said) (k .coordination) }) o) (advances .step free))
+
+      pub end-is : wholeEnd s i d k a ≡ put s (takeStep (callOf m) (view s) .state)
+      end-is =
+          let n = good-number s good in
+          holds-is-put s (wholeEnd s i d k a) (takeStep (callOf m) (view s) .state) (good .sized) (n .0) (n .1)
+          (beyond-trans s (ownEnd s i d k) (wholeEnd s i d k a) own-beyond (beyond-columns (ownEnd s i d k) (wholeEnd s i d k a) refl refl refl refl refl refl refl refl refl))
+          (neat-with-completion (ownEnd s i d k) own-neat (a .completion) (advances .neat))
+          (sym (ap (λ (o : Step). o .state) step-is))

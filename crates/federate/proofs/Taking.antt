@@ -1,0 +1,233 @@
+-- A scheduler call past 27, 8, 7 and 3, told of plain values: the first half is decided for the enclave's place, the second concluded from the state between,
+-- the completion step taken from the state after it; a spent generation puts the enclave's cells back, and else the room has the records of what
+-- both steps say. Assumes nothing.
+use mathlib.Core.Path.{_≡_, refl, sym, ap, _∙_, subst}
+use mathlib.Core.Bool.{true, false, _&&_}
+use mathlib.Core.List.{List, [], _++_}
+use mathlib.Core.Logic.{_⊎_, inl, inr}
+use Prim.Native.Nat.{ℕ, _+_, _*_, _≤_, _<_}
+use native.Mathlib.Omega.{arith}
+use lib.Dec.{T}
+use mir.Syntax.{w32, w64}
+use mir.Val.{ofZ, toZ}
+use lib.IntN.{pos}
+use lib.ListN.{length, getD}
+use Rattle.tags.specs.Tags.{properIfPresent}
+use Rattle.records.specs.declared.Refusal.the-variants.{Taken, GenerationSpent}
+use Rattle.records.specs.declared.SchedulerMessage.{SchedulerMessage}
+use Rattle.rules.specs.Model.{Tag, CoordinationAction, Silent, Step}
+use Rattle.rules.specs.Calls.{facts, allProper, ownStep, takeStep, isSound, isSpent}
+use Rattle.bytes.proofs.Runs.{put-nil}
+use Rattle.actions.specs.Record.{recordsOf}
+use Rattle.state.specs.declared.FederateCoordinationState.{FederateCoordinationState as Held}
+use Rattle.state.specs.declared.Decided.{Decided}
+use Rattle.state.specs.declared.Row.{Row}
+use Rattle.state.specs.declared.Parts.{Parts}
+use Rattle.state.specs.View.{view, put, represents}
+use Rattle.state.specs.Parts.{Sized, rowOf, partsOf, rebuilt, cleared, withCoordination, withCompletion, withGate}
+use Rattle.state.specs.Decides.{Good, Decides, halfway, neatParts}
+use Rattle.state.proofs.Neat.{place-parts, neat-place, neat-coordination, neat-completion, neat-failure}
+use Rattle.publication.proofs.Neat.{parts-whole, row-whole}
+use Rattle.calls.specs.Called.{lent, replied}
+use Rattle.calls.specs.declared.Called.{Called}
+use Rattle.calls.proofs.Refusals.{Passes}
+use Rattle.completion.specs.declared.Advanced.{Advanced}
+use Rattle.completion.specs.declared.Saying.{Saying}
+use Rattle.completion.specs.declared.Saying.the-variants.{Nothing, Probes, Completes}
+use Rattle.completion.specs.Advance.{Advances, sayings}
+use Rattle.dispatch.specs.declared.Concluded.{Concluded}
+use Rattle.dispatch.specs.declared.Flat.{Flat}
+use Rattle.dispatch.specs.Messages.{callOf, enclaveOf, tagOf, flatOf, Names, actionsOf, Concludes}
+use Rattle.emission.specs.Written.{Written, Adds}
+use Rattle.emission.proofs.Adding.{add-then}
+use Rattle.federate.specs.Places.{saidBy}
+use Rattle.federate.proofs.Message.{message-proper, Sits}
+use Rattle.federate.proofs.Scheduler.{ownEnd, wholeEnd, good-number, halfway-fair, own-good, spent-is, step-is, end-is}
+use Rattle.federate.proofs.Refusing.{yes-T, Both, out-spent, step-fits, out-taken}
+use Rattle.federate.proofs.Undo.{set-back, set-back-two}
+
+-- the enclave stands at place i, and 27, 8, 7 and 3 are passed
+pub record Enters (room : List ℕ) (m : SchedulerMessage) (s : Held) (i : ℕ) : Type 0 where
+  pub sized : Sized s
+  pub passes : Passes s
+  pub wide : 56 * (s .count + 2) ≤ length room
+  pub proper : properIfPresent (tagOf m) ≡ true
+  pub place : Sits (enclaveOf m) s i
+
+-- ---- the cells as the code stores them: a signed number through its bits
+
+abbrev toldTag : Tag → Tag
+toldTag t = record { seconds = toZ w64 (ofZ w64 (t .seconds)); nanoseconds = toZ w32 (ofZ w32 (t .nanoseconds)); microstep = t .microstep }
+
+-- the number is the one that the bits give back
+abbrev pub Told : Tag → Type 0
+Told t = (toZ w64 (ofZ w64 (t .seconds)) ≡ t .seconds) × (toZ w32 (ofZ w32 (t .nanoseconds)) ≡ t .nanoseconds)
+
+told-tag : (t : Tag) → Told t → toldTag t ≡ t
+told-tag t h = rw (h .0, h .1) refl
+
+abbrev pub toldRow : Row → Row
+toldRow w = record { published = w .published; candidate = toldTag (w .candidate); completed = toldTag (w .completed); acknowledged = w .acknowledged; «completion_observed» = w .«completion_observed» }
+
+pub told-row : (w : Row) → Told (w .candidate) → Told (w .completed) → toldRow w ≡ w
+told-row w p q = rw (told-tag (w .candidate) p, told-tag (w .completed) q) refl
+
+abbrev pub told : Decided → Decided
+told d = record {
+  parts = record { row = toldRow (d .parts .row); coordination = d .parts .coordination; completion = d .parts .completion; failed = d .parts .failed; «first_failure» = d .parts .«first_failure» };
+  forgets = d .forgets;
+  next = d .next;
+}
+
+pub told-decided : (d : Decided) → Told (d .parts .row .candidate) → Told (d .parts .row .completed) → told d ≡ d
+told-decided d p q = rw (told-row (d .parts .row) p q) refl
+
+-- ---- the cells put back
+
+abbrev pub withRow : Held → ℕ → Row → Held
+withRow s i w = rebuilt s i (record { row = w; coordination = s .coordination; completion = s .completion; failed = s .failed; «first_failure» = s .«first_failure» }) (s .observation) (s .gate)
+
+undone : (s : Held) (i : ℕ) (x w : Row) → Sized s → i < 32 → w ≡ rowOf s i → withRow (withRow s i x) i w ≡ s
+undone s i x w z h q =
+    let a = z .published in let b = z .acknowledged in let c = z .observed in let d = z .seconds in let e = z .nanoseconds in let f = z .microsteps in
+    rw (
+      q,
+      set-back false (s .published) i (x .published) (omega arith),
+      set-back false (s .acknowledged) i (x .acknowledged) (omega arith),
+      set-back 0 (s .«completion_observed») i (x .«completion_observed») (omega arith),
+      set-back-two (pos 0) (s .seconds) i (32 + i) (x .candidate .seconds) (x .completed .seconds) (omega arith) (omega arith),
+      set-back-two (pos 0) (s .nanoseconds) i (32 + i) (x .candidate .nanoseconds) (x .completed .nanoseconds) (omega arith) (omega arith),
+      set-back-two 0 (s .microsteps) i (32 + i) (x .candidate .microstep) (x .completed .microstep) (omega arith) (omega arith),
+    ) refl
+
+-- ---- the observations, cleared or not
+
+module _ (s : Held) (i : ℕ) (d : Decided) (k : Concluded) (a : Advanced) where
+  abbrev pub endWith : List ℕ → Held
+  endWith o = withCompletion (a .completion) (withGate (k .gate) (withCompletion (k .completion) (withCoordination (k .coordination) (rebuilt s i (d .parts) o (s .gate)))))
+
+  pub end-cleared : (o : List ℕ) → o ≡ cleared (s .count) (s .observation) → d .forgets ≡ true → endWith o ≡ wholeEnd s i d k a
+  end-cleared o h e = rw (h, e) refl
+
+  pub end-kept : d .forgets ≡ false → endWith (s .observation) ≡ wholeEnd s i d k a
+  end-kept e = rw e refl
+
+pub either : {A B C : Type 0} → (A → C) → (B → C) → A ⊎ B → C
+either f g (inl a) = f a
+either f g (inr b) = g b
+
+-- ---- what is said, as the columns have it
+
+said-by : (s : Held) (p : Saying) (a : Advanced) → saidBy (s .enclaves) (s .seconds) (s .nanoseconds) (s .microsteps) (s .count) p a ≡ sayings p s a
+said-by s Nothing a = refl
+said-by s Probes a = refl
+said-by s Completes a = refl
+
+nothing : (room : List ℕ) → Written room [] room 0
+unfolding recordsOf
+nothing room = record { bytes = sym (put-nil room 0); number = refl }
+
+module _ (room : List ℕ) (m : SchedulerMessage) (s : Held) (i : ℕ) (n : Enters room m s i) where
+  pub good : Good s
+  good = record { sized = n .sized; neat = yes-T (represents s) (n .passes .neat); sound = yes-T (isSound (view s)) (n .passes .sound) }
+
+  pub few : s .count ≤ 32
+  few = good-number s good .1
+
+  within : i < s .count
+  within = n .place .seat .within
+
+  proper : T (allProper (facts (callOf m) .tags))
+  proper = yes-T (allProper (facts (callOf m) .tags)) (message-proper m ∙ n .proper)
+
+  neat-own : T (neatParts (partsOf s i))
+  neat-own =
+      let h = good .neat in
+      let p = place-parts s i (neat-place s h i within) in
+      parts-whole (partsOf s i) (record {
+        row = row-whole (rowOf s i) (record { candidate = p .candidate; completed = p .completed; observed = p .observed });
+        coordination = neat-coordination s h;
+        completion = neat-completion s h;
+        failure = neat-failure s h;
+      })
+
+  -- ---- the first half, as `own_step` promises it of the row that was read
+
+  module _ (f : Flat) (flat : f ≡ flatOf m) (w : Row) (row : w ≡ rowOf s i) (d : Decided) where
+    abbrev pub read : Parts
+    read = record { row = w; coordination = s .coordination; completion = s .completion; failed = s .failed; «first_failure» = s .«first_failure» }
+
+    read-is : read ≡ partsOf s i
+    read-is = rw row refl
+
+    module _ (steps : (x : SchedulerMessage) (e : ℕ) → f ≡ flatOf x → Names (enclaveOf x) e → T (allProper (facts (callOf x) .tags)) → Decides (ownStep (callOf x)) e read d)
+        (keeps : (x : SchedulerMessage) → f ≡ flatOf x → T (allProper (facts (callOf x) .tags)) → T (neatParts read) → T (neatParts (d .parts))) where
+      pub decides : Decides (ownStep (callOf m)) (getD (s .enclaves) i 0) (partsOf s i) d
+      decides = subst (λ (p : Parts). Decides (ownStep (callOf m)) (getD (s .enclaves) i 0) p d) read-is (steps m (getD (s .enclaves) i 0) flat (n .place .named) proper)
+
+      pub neat : T (neatParts (d .parts))
+      neat = keeps m flat proper (subst (λ (p : Parts). T (neatParts p)) (sym read-is) neat-own)
+
+  -- ---- the state between, and the state after the own rule
+
+  module _ (d : Decided) (neat : T (neatParts (d .parts))) where
+    pub halfway-holds : T (represents (halfway s i d))
+    halfway-holds = halfway-fair s i d good within neat .neat
+
+    module _ (decides : Decides (ownStep (callOf m)) (getD (s .enclaves) i 0) (partsOf s i) d) (k : Concluded)
+        (concludes : Concludes (halfway s i d) (getD (s .enclaves) i 0) (d .next) k) where
+      pub own-holds : T (represents (ownEnd s i d k))
+      own-holds = own-good s m i d k good (n .place) (yes-T (properIfPresent (tagOf m)) (n .proper)) decides neat concludes .neat
+
+      module _ (a : Advanced) (advances : Advances (ownEnd s i d k) a) (r : Called) where
+        pub ends-9 : a .spent ≡ true → (x w : Row) → w ≡ rowOf s i → r ≡ replied (withRow (withRow s i x) i w) GenerationSpent Silent 0
+            → Both (lent (length room) (callOf m)) s r room room
+        ends-9 h x w row q =
+            out-spent room m s r (n .passes) (n .wide) (n .proper) i (n .place) (withRow (withRow s i x) i w) (a .spent)
+            (spent-is s m i d k good (n .place) (yes-T (properIfPresent (tagOf m)) (n .proper)) decides neat concludes a advances) h
+            (undone s i x w (n .sized) (let z = few in let y = within in omega arith) row) q
+
+        ends-so : a .spent ≡ false → (room₁ room₂ : List ℕ) (one two : ℕ)
+            → Adds (actionsOf (getD (s .enclaves) i 0) (k .said) (k .coordination)) room 0 room₁ one
+            → Adds (saidBy (s .enclaves) (halfway s i d .seconds) (halfway s i d .nanoseconds) (halfway s i d .microsteps) (s .count) (a .saying) a) room₁ one room₂ two
+            → r ≡ replied (wholeEnd s i d k a) Taken Silent two → Both (lent (length room) (callOf m)) s r room room₂
+        ends-so free room₁ room₂ one two own after q =
+            out-taken room m s r (n .passes) (n .wide) (n .proper) i (n .place) (a .spent) spent free (wholeEnd s i d k a) room₂ two ends
+            (subst (λ (l : List CoordinationAction). Written room l room₂ two) (sym acts) written) q
+          where
+            good-tag : T (properIfPresent (tagOf m))
+            good-tag = yes-T (properIfPresent (tagOf m)) (n .proper)
+
+            spent : (facts (callOf m) .message && isSpent (ownStep (callOf m) (view s) .state)) ≡ a .spent
+            spent = spent-is s m i d k good (n .place) good-tag decides neat concludes a advances
+
+            ends : wholeEnd s i d k a ≡ put s (takeStep (callOf m) (view s) .state)
+            ends = end-is s m i d k good (n .place) good-tag decides neat concludes a advances free
+
+            said : List CoordinationAction
+            said = actionsOf (getD (s .enclaves) i 0) (k .said) (k .coordination)
+
+            later : List CoordinationAction
+            later = sayings (a .saying) (ownEnd s i d k) a
+
+            acts : takeStep (callOf m) (view s) .actions ≡ said ++ later
+            acts = ap (λ (o : Step). o .actions) (step-is s m i d k good (n .place) good-tag decides neat concludes a advances free)
+
+            fits : 56 * length (said ++ later) ≤ length room
+            fits = subst (λ (l : List CoordinationAction). 56 * length l ≤ length room) acts (step-fits room m s r (n .passes) (n .wide) (n .proper) i (n .place) (a .spent) spent free)
+
+            written : Written room (said ++ later) room₂ two
+            written =
+                add-then said later room room₁ room₂ 0 one two own (subst (λ (l : List CoordinationAction). Adds l room₁ one room₂ two) (said-by (ownEnd s i d k) (a .saying) a) after)
+                room [] (nothing room) (let z = fits in omega arith)
+
+        -- whatever the state handed back is called
+        pub ends-taken : a .spent ≡ false → (t : Held) → t ≡ wholeEnd s i d k a → (room₁ room₂ : List ℕ) (one two : ℕ)
+            → Adds (actionsOf (getD (t .enclaves) i 0) (k .said) (k .coordination)) room 0 room₁ one
+            → Adds (saidBy (t .enclaves) (t .seconds) (t .nanoseconds) (t .microsteps) (s .count) (a .saying) a) room₁ one room₂ two
+            → r ≡ replied t Taken Silent two → Both (lent (length room) (callOf m)) s r room room₂
+        ends-taken free t z room₁ room₂ one two own after q =
+            ends-so free room₁ room₂ one two
+            (subst (λ (x : Held). Adds (actionsOf (getD (x .enclaves) i 0) (k .said) (k .coordination)) room 0 room₁ one) z own)
+            (subst (λ (x : Held). Adds (saidBy (x .enclaves) (x .seconds) (x .nanoseconds) (x .microsteps) (s .count) (a .saying) a) room₁ one room₂ two) z after)
+            (q ∙ ap (λ (x : Held). replied x Taken Silent two) z)

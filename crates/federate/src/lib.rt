@@ -1,0 +1,295 @@
+// The federate's scheduler call (document 01, "Step rules"; state.rs: handle_scheduler): refusals 27, 8, 7, 3 and 9, the message's own rule, then the
+// completion step, and the records of what they say from byte 0 of the lent room.
+ghost use mathlib.Core.Path.{_≡_};
+ghost use mathlib.Core.Bool.{cond};
+ghost use mathlib.Core.List.{[], _∷_};
+ghost use lib.Dec.{eqb};
+ghost use Prim.Native.Nat.{_+_, _*_, _≤_, _<_};
+ghost use lib.ListN.{length};
+ghost use Rattle.bytes.specs.Runs.{putAt};
+ghost use Rattle.actions.specs.Record.{recordsOf};
+ghost use Rattle.publication.specs.Announce.{announcement};
+ghost use Rattle.dispatch.specs.Messages.{callOf, actionsOf as ownActions};
+ghost use Rattle.completion.specs.Advance.{completeAction};
+ghost use Rattle.emission.specs.Written.{Adds};
+ghost use Rattle.calls.specs.Called.{lent, actionsOf, Promised};
+ghost use Rattle.federate.specs.Places.{placeOf, saidBy};
+use calls::Called;
+use completion::Advanced;
+use completion::Saying;
+use dispatch::Said;
+use records::Answer;
+use records::CoordinationAction;
+use records::FederateCompletion;
+use records::FederatePublication;
+use records::OptionalEnclave;
+use records::Refusal;
+use records::SchedulerMessage;
+use state::COMPLETED;
+use state::Coordination;
+use state::FederateCoordinationState;
+use state::Parts;
+use tags::Tag;
+
+// The place of the enclave that is named, or the first place where nobody is.
+fn place_of(enclaves: &[u32; 32], count: usize, enclave: OptionalEnclave) -> usize
+    requires { ⌜ count ≤ 32 ⌝ }
+    ensures { λ r. ⌜ r ≡ placeOf enclave (now (enclaves .entry)) count ⌝ }
+{
+    match enclave {
+        OptionalEnclave::NoEnclave => 0,
+        OptionalEnclave::Enclave(e) => table::find(enclaves, count, e),
+    }
+}
+
+fn add_complete(room: &mut [u8], written: usize, completed: Tag, network_input: bool) -> usize
+    requires { ⌜ written ≤ 4 ⌝ }
+    ensures { λ r. ⌜ Adds (completeAction completed «network_input» ∷ []) (now (room .entry)) written (now (room .exit)) r ⌝ }
+    ensures few { λ r. ⌜ r ≡ written + 1 ⌝ }
+{
+    let completion = FederateCompletion {
+        completed,
+        network_input,
+    };
+    emission::add(room, written, CoordinationAction::Complete(completion))
+}
+
+fn kind_if(says: bool, kind: u8) -> u8
+    ensures { λ r. ⌜ r ≡ cond says kind 0 ⌝ }
+{
+    if says { kind } else { 0 }
+}
+
+fn is_probing(c: Coordination) -> bool
+    ensures { λ r. ⌜ r ≡ eqb (c .phase) 1 ⌝ }
+{
+    c.phase == 1
+}
+
+// Publish of the pending publication, Resume if told so, Probe in phase Probing.
+fn add_announcement(room: &mut [u8], c: Coordination, resumes: bool, enclave: u32) -> usize
+    ensures { λ r. ⌜ Adds (announcement enclave resumes c) (now (room .entry)) 0 (now (room .exit)) r ⌝ }
+    ensures few { λ r. ⌜ r ≤ 3 ⌝ }
+{
+    let next = c.pending_next_event;
+    let horizon = c.pending_grant_horizon;
+    let next_event = state::optional_of(next);
+    let grant_horizon = state::optional_of(horizon);
+    let publication = FederatePublication {
+        revision: c.pending_revision,
+        next_event,
+        grant_horizon,
+    };
+    let resume = kind_if(resumes, 9);
+    let probe = kind_if(is_probing(c), 6);
+    let one = emission::add(room, 0, CoordinationAction::Publish(publication));
+    let two = emission::add_kind(room, one, resume, enclave, c.revision);
+    emission::add_kind(room, two, probe, enclave, c.revision)
+}
+
+// The actions of a message's own rule, from byte 0.
+fn add_said(room: &mut [u8], said: Said, c: Coordination, enclave: u32) -> usize
+    ensures { λ r. ⌜ Adds (ownActions enclave said c) (now (room .entry)) 0 (now (room .exit)) r ⌝ }
+    ensures few { λ r. ⌜ r ≤ 3 ⌝ }
+{
+    match said {
+        Said::Kind(kind) => emission::add_kind(room, 0, kind, enclave, c.revision),
+        Said::Announcement(resumes) => add_announcement(room, c, resumes, enclave),
+        Said::Completion(tag, mark) => add_complete(room, 0, tag, mark),
+    }
+}
+
+// The actions of the completion step, after those of the own rule.
+fn add_saying<'a>(
+    room: &mut [u8],
+    written: usize,
+    enclaves: &'a [u32; 32],
+    seconds: &'a [i64; 96],
+    nanoseconds: &'a [i32; 96],
+    microsteps: &'a [u64; 96],
+    count: usize,
+    advanced: Advanced,
+) -> usize
+    requires { ⌜ (written ≤ 3) × (count ≤ 32) ⌝ }
+    ensures { λ r. ⌜ Adds (saidBy (now (enclaves .entry)) (now (seconds .entry)) (now (nanoseconds .entry)) (now (microsteps .entry)) count (advanced .saying) advanced) (now (room .entry)) written (now (room .exit)) r ⌝ }
+{
+    let saying = advanced.saying;
+    let frontier = advanced.frontier;
+    let completion = advanced.completion;
+    match saying {
+        Saying::Nothing => written,
+        Saying::Probes => emission::add_probes(
+            room,
+            written,
+            enclaves,
+            seconds,
+            nanoseconds,
+            microsteps,
+            count,
+            frontier,
+            completion.completion_generation,
+        ),
+        Saying::Completes => add_complete(room, written, frontier, advanced.mark),
+    }
+}
+
+// One scheduler message: 27, 8, 7, 3 and 9, else the rules' step with its records in the room. One straight line over the state that came in, since each
+// hop of it by value costs a copy; the entry's cells are put back where the generation is spent.
+pub fn handle_scheduler(
+    mut state: FederateCoordinationState,
+    message: SchedulerMessage,
+    room: &mut [u8],
+) -> Called
+    ensures { λ r. ⌜ Promised (lent (length (now (room .entry))) (callOf message)) state r ⌝ }
+    ensures bytes { λ r. ⌜ now (room .exit) ≡ putAt (now (room .entry)) 0 (recordsOf (actionsOf (lent (length (now (room .entry))) (callOf message)) state)) ⌝ }
+{
+    let count = state.count;
+    if 32 < count {
+        return calls::with_reply(state, Refusal::UnsoundState, Answer::Silent, 0);
+    }
+    let coordination = state.coordination;
+    let completion = state.completion;
+    let gate = state.gate;
+    let horizon = state.grant_horizon;
+    let lifecycle = state.lifecycle;
+    if !soundness::is_sound(
+        &state.enclaves,
+        &state.observation,
+        &state.acknowledged,
+        &state.completion_observed,
+        &state.seconds,
+        &state.nanoseconds,
+        &state.microsteps,
+        count,
+        coordination,
+        completion,
+        gate,
+        horizon,
+        state.failed,
+        state.first_failure,
+        lifecycle,
+    ) {
+        return calls::with_reply(state, Refusal::UnsoundState, Answer::Silent, 0);
+    }
+    if room.len() < 56 * (count + 2) {
+        return calls::with_reply(state, Refusal::RoomTooSmall, Answer::Silent, 0);
+    }
+    let flat = dispatch::flat_of(message);
+    let tag = flat.tag;
+    if !tags::proper_if_present(tag) {
+        return calls::with_reply(state, Refusal::ImproperTag, Answer::Silent, 0);
+    }
+    let enclave = flat.enclave;
+    let place = place_of(&state.enclaves, count, enclave);
+    if count <= place {
+        return calls::with_reply(state, Refusal::UnknownEnclave, Answer::Silent, 0);
+    }
+    let row = table::row_at(
+        &state.published,
+        &state.acknowledged,
+        &state.completion_observed,
+        &state.seconds,
+        &state.nanoseconds,
+        &state.microsteps,
+        place,
+    );
+    let parts = Parts {
+        row,
+        coordination,
+        completion,
+        failed: state.failed,
+        first_failure: state.first_failure,
+    };
+    let decided = dispatch::own_step(flat, parts);
+    let own = decided.parts;
+    let cells = own.row;
+    let candidate = cells.candidate;
+    let completed = cells.completed;
+    state.published[place] = cells.published;
+    state.acknowledged[place] = cells.acknowledged;
+    state.completion_observed[place] = cells.completion_observed;
+    let candidate_seconds = candidate.seconds;
+    state.seconds[place] = candidate_seconds;
+    let candidate_nanoseconds = candidate.nanoseconds;
+    state.nanoseconds[place] = candidate_nanoseconds;
+    state.microsteps[place] = candidate.microstep;
+    let at = COMPLETED + place;
+    let completed_seconds = completed.seconds;
+    state.seconds[at] = completed_seconds;
+    let completed_nanoseconds = completed.nanoseconds;
+    state.nanoseconds[at] = completed_nanoseconds;
+    state.microsteps[at] = completed.microstep;
+    let next = decided.next;
+    let own_coordination = own.coordination;
+    let own_completion = own.completion;
+    let concluded = dispatch::conclude(
+        &state.published,
+        &state.seconds,
+        &state.nanoseconds,
+        &state.microsteps,
+        count,
+        next,
+        own_coordination,
+        own_completion,
+        gate,
+        horizon,
+        lifecycle,
+    );
+    let next_coordination = concluded.coordination;
+    let next_completion = concluded.completion;
+    let advanced = completion::advance_completion(
+        &state.published,
+        &state.acknowledged,
+        &state.completion_observed,
+        &state.seconds,
+        &state.nanoseconds,
+        &state.microsteps,
+        count,
+        next_coordination.phase,
+        horizon,
+        next_completion,
+    );
+    if advanced.spent {
+        let old_candidate = row.candidate;
+        let old_completed = row.completed;
+        state.published[place] = row.published;
+        state.acknowledged[place] = row.acknowledged;
+        state.completion_observed[place] = row.completion_observed;
+        let old_candidate_seconds = old_candidate.seconds;
+        state.seconds[place] = old_candidate_seconds;
+        let old_candidate_nanoseconds = old_candidate.nanoseconds;
+        state.nanoseconds[place] = old_candidate_nanoseconds;
+        state.microsteps[place] = old_candidate.microstep;
+        let old_completed_seconds = old_completed.seconds;
+        state.seconds[at] = old_completed_seconds;
+        let old_completed_nanoseconds = old_completed.nanoseconds;
+        state.nanoseconds[at] = old_completed_nanoseconds;
+        state.microsteps[at] = old_completed.microstep;
+        return calls::with_reply(state, Refusal::GenerationSpent, Answer::Silent, 0);
+    }
+    let forgets = decided.forgets;
+    let next_gate = concluded.gate;
+    let last_completion = advanced.completion;
+    let said = concluded.said;
+    state.coordination = next_coordination;
+    state.completion = last_completion;
+    state.gate = next_gate;
+    state.failed = own.failed;
+    state.first_failure = own.first_failure;
+    if forgets {
+        table::clear(&mut state.observation, count);
+    }
+    let number = state.enclaves[place];
+    let one = add_said(room, said, next_coordination, number);
+    let total = add_saying(
+        room,
+        one,
+        &state.enclaves,
+        &state.seconds,
+        &state.nanoseconds,
+        &state.microsteps,
+        count,
+        advanced,
+    );
+    calls::with_reply(state, Refusal::Taken, Answer::Silent, total)
+}
