@@ -1,0 +1,91 @@
+-- `gate::input_publishing` keeps the promise of the call `input`: it refuses 27, then 3, and else stores what the rule says. Assumes nothing.
+use mathlib.Core.Path.{_≡_, refl, sym, _∙_}
+use mathlib.Core.Bool.{_&&_}
+use borrow.Author.Tests.{not-true, not-false}
+use Rattle.rules.specs.Calls.{isSound}
+use Rattle.rules.specs.Model.{Silent}
+use Rattle.state.specs.View.{view, represents}
+use Rattle.state.specs.Parts.{Sized}
+use Rattle.gate.proofs.Standing.{sized-by, lent-whole, Standing, standing}
+use Rattle.gate.proofs.Ends.{ends-27}
+use Rattle.gate.proofs.Noticing.{ends-unknown, ends-noticed}
+use borrow.Author.Needs.{needs}
+use Rattle.gate.proofs.input_publishing.Statement.{statement}
+use Rattle.gate.proofs.input_publishing.Tie as tie
+
+-- ---- the state given, and that it passes 27
+
+abbrev entered : tie.After-is-sound → tie.Start
+entered c = c .before .before .before .before .before .before .before .before .before .before .before .before .before .before
+
+sized : (e : tie.Start) → Sized (e .args .t1)
+sized e =
+    let f = e .good .0 .1 .1 .1 in
+    sized-by (e .args .t1) (f .0 .1 .0 .1) (f .1 .0 .1 .0 .1) (f .1 .1 .0 .1 .0 .1) (f .1 .1 .1 .0 .1 .0 .1) (f .1 .1 .1 .1 .0 .1 .0 .1) (f .1 .1 .1 .1 .1 .0 .1 .0 .1) (f .1 .1 .1 .1 .1 .1 .0 .1 .0 .1) (f .1 .1 .1 .1 .1 .1 .1 .0 .1 .0 .1)
+
+tested : (c : tie.After-is-sound) → let s = entered c .args .t1 in c .is-sound .result ≡ (represents s && isSound (view s))
+tested c = c .is-sound .ensures (entered c .args .t1) (lent-whole (entered c .args .t1))
+
+stands : (c : tie.Else1) → Standing (entered (c .before) .args .t1)
+stands c = standing (entered (c .before) .args .t1) (sized (entered (c .before))) (sym (tested (c .before)) ∙ not-false (c .before .is-sound .result) (c .if1 .left))
+
+-- ---- the answers
+
+is-sound-requires : tie.Need-is-sound-requires
+is-sound-requires c κs = search needs
+
+with-reply-requires : tie.Need-with-reply-requires
+with-reply-requires c κs = search needs
+
+returns : tie.Need-returns
+returns c = ends-27 _ _ _ Silent (c .with-reply .ensures) (sym (tested (c .before .before)) ∙ not-true _ (c .before .if1 .taken)) refl
+
+are-known-requires : tie.Need-are-known-requires
+are-known-requires c κs = stands (c .before .before) .bounds .few
+
+with-reply-requires-2 : tie.Need-with-reply-requires-2
+with-reply-requires-2 c κs = search needs
+
+returns-2 : tie.Need-returns-2
+returns-2 c = ends-unknown _ _ (stands (c .before .before .before .before .before)) (c .before .before .are-known .ensures) _ (c .before .if2 .taken) (c .with-reply2 .ensures)
+
+clear-requires : tie.Need-clear-requires
+clear-requires c κs = stands (c .before .before .before .before .before .before .before) .bounds .few
+
+still-published-requires : tie.Need-still-published-requires
+still-published-requires c κs = stands (c .before .before .before .before .before .before .before .before .before .before) .bounds .few
+
+revised-requires : tie.Need-revised-requires
+revised-requires c κs = search needs
+
+unprobed-requires : tie.Need-unprobed-requires
+unprobed-requires c κs = search needs
+
+without-grants-requires : tie.Need-without-grants-requires
+without-grants-requires c κs = search needs
+
+with-reply-requires-3 : tie.Need-with-reply-requires-3
+with-reply-requires-3 c κs = search needs
+
+returns-3 : tie.Need-returns-3
+returns-3 c =
+    ends-noticed _ _ (stands (c .before .before .before .before .before .before .before .before .before .before .before .before .before .before .before)) (c .before .before .before .before .before .before .before .before .before .before .before .before .are-known .ensures) _ _ _ _ _ _ (c .before .before .before .before .before .before .before .before .before .before .before .if2 .left) (c .before .before .before .before .still-published .ensures)
+    (c .before .before .before .before .before .before .before .clear .ensures) (c .before .before .before .revised .ensures) (c .before .before .unprobed .ensures) (c .before .without-grants .ensures) (c .with-reply3 .ensures)
+
+pub input-publishing-spec : {M : Type 1} → statement M
+input-publishing-spec =
+    tie.close
+    (tie.spec
+    is-sound-requires
+    with-reply-requires
+    returns
+    are-known-requires
+    with-reply-requires-2
+    returns-2
+    clear-requires
+    still-published-requires
+    revised-requires
+    unprobed-requires
+    without-grants-requires
+    with-reply-requires-3
+    returns-3)
