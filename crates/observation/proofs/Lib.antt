@@ -1,0 +1,5 @@
+pub mod Numbers
+pub mod Deciding
+pub mod Ends
+pub mod Observing
+pub mod Taking

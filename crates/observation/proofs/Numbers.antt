@@ -1,0 +1,83 @@
+-- The numbers of phases, policies, observations and verdicts say the same as their cases, and the table of numbers the same as the rules' table of
+-- verdicts: each by its few cases. Assumes nothing.
+use mathlib.Core.Path.{_≡_, refl, ap, _∙_}
+use mathlib.Core.List.{List, [], _∷_, map}
+use Prim.Native.Nat.{ℕ, zero, suc, _+_, _*_, _≤_, _<_}
+use native.Mathlib.Nat.{not-suc-le-zero}
+use native.Mathlib.Omega.{arith}
+use lib.Dec.{eqb}
+use lib.ListN.{length, getD}
+use Rattle.records.specs.Numbers.{phaseNumber, observationNumber, verdictNumber}
+use Rattle.rules.specs.Model.{CoordinationPhase, Active, Probing, Parking, Rechecking, Parked, AwaitingIdleConfirmation, Stopped, Observation, Probed, HasParked, Rechecked}
+use Rattle.rules.specs.Model.{Verdict, Counts, Ignored, Refused}
+use Rattle.rules.specs.Observation.{verdicts, verdictOf, hasObserved, isCoordinated}
+use Rattle.state.specs.Cells.{phaseOf, policyOf, observationOf}
+use Rattle.observation.specs.Moves.{verdictNumbered}
+
+-- ---- numbers of enums
+
+pub phase-numbered : (n : ℕ) → n ≤ 6 → phaseNumber (phaseOf n) ≡ n
+phase-numbered zero h = refl
+phase-numbered (suc zero) h = refl
+phase-numbered (suc (suc zero)) h = refl
+phase-numbered (suc (suc (suc zero))) h = refl
+phase-numbered (suc (suc (suc (suc zero)))) h = refl
+phase-numbered (suc (suc (suc (suc (suc zero))))) h = refl
+phase-numbered (suc (suc (suc (suc (suc (suc zero)))))) h = refl
+phase-numbered (suc (suc (suc (suc (suc (suc (suc n))))))) h = absurd (omega arith)
+
+pub phase-below : (p : CoordinationPhase) → phaseNumber p ≤ 6
+phase-below Active = omega arith
+phase-below Probing = omega arith
+phase-below Parking = omega arith
+phase-below Rechecking = omega arith
+phase-below Parked = omega arith
+phase-below AwaitingIdleConfirmation = omega arith
+phase-below Stopped = omega arith
+
+pub observation-bound : (o : Observation) → observationNumber o ≤ 2
+observation-bound Probed = omega arith
+observation-bound HasParked = omega arith
+observation-bound Rechecked = omega arith
+
+pub observed-cell : (o : Observation) (n : ℕ) → n ≤ 3 → hasObserved o (observationOf n) ≡ eqb n (observationNumber o + 1)
+observed-cell Probed zero h = refl
+observed-cell Probed (suc zero) h = refl
+observed-cell Probed (suc (suc zero)) h = refl
+observed-cell Probed (suc (suc (suc zero))) h = refl
+observed-cell HasParked zero h = refl
+observed-cell HasParked (suc zero) h = refl
+observed-cell HasParked (suc (suc zero)) h = refl
+observed-cell HasParked (suc (suc (suc zero))) h = refl
+observed-cell Rechecked zero h = refl
+observed-cell Rechecked (suc zero) h = refl
+observed-cell Rechecked (suc (suc zero)) h = refl
+observed-cell Rechecked (suc (suc (suc zero))) h = refl
+observed-cell o (suc (suc (suc (suc n)))) h = absurd (omega arith)
+
+pub coordinated-numbered : (n : ℕ) → n ≤ 2 → isCoordinated (policyOf n) ≡ eqb n 2
+coordinated-numbered zero h = refl
+coordinated-numbered (suc zero) h = refl
+coordinated-numbered (suc (suc zero)) h = refl
+coordinated-numbered (suc (suc (suc n))) h = absurd (omega arith)
+
+pub verdict-numbered : (v : Verdict) → verdictNumbered (verdictNumber v) ≡ v
+verdict-numbered Counts = refl
+verdict-numbered Ignored = refl
+verdict-numbered Refused = refl
+
+-- ---- the table
+
+entry-map : {A B : Type 0} (f : A → B) (l : List A) (a : A) (b : B) (k : ℕ) → k < length l → getD (map f l) k b ≡ f (getD l k a)
+entry-map f [] a b k h = absurd (not-suc-le-zero h)
+entry-map f (x ∷ xs) a b zero h = refl
+entry-map f (x ∷ xs) a b (suc k) h = entry-map f xs a b k (omega arith)
+
+-- one computed test of the whole table, then the rule at each entry
+pub table-entry : (numbers : List ℕ) → numbers ≡ map verdictNumber verdicts → (k : ℕ) → k < 21 → getD numbers k 0 ≡ verdictNumber (getD verdicts k Ignored)
+table-entry numbers e k h = ap (λ l. getD l k 0) e ∙ entry-map verdictNumber verdicts Ignored 0 k h
+
+pub looked-up-verdict : (phase : ℕ) (o : Observation) {column number : ℕ} {v : Verdict} → phase ≤ 6 → column ≡ observationNumber o
+    → number ≡ verdictNumber (getD verdicts (phase * 3 + column) Ignored) → v ≡ verdictNumbered number → v ≡ verdictOf (phaseOf phase) o
+looked-up-verdict phase o h e f g =
+    rw (phase-numbered phase h) (g ∙ ap verdictNumbered f ∙ verdict-numbered _ ∙ ap (λ k. getD verdicts (phase * 3 + k) Ignored) e)
