@@ -1,0 +1,88 @@
+-- A taken acquisition keeps its promise: the state with what `acquire` decided holds a state of document 01, is the entry state past the count and
+-- shows the rule's, and the records written one after the other are those of the rule's actions. Assumes nothing.
+use mathlib.Core.Path.{_≡_, refl, sym, ap, _∙_}
+use mathlib.Core.Bool.{Bool, true, false}
+use mathlib.Core.List.{List, [], _∷_}
+use Prim.Native.Nat.{ℕ, _+_, _*_, _≤_}
+use native.Mathlib.Omega.{arith}
+use lib.Dec.{T}
+use lib.IntN.{pos}
+use lib.ListN.{length}
+use Rattle.tags.specs.Tags.{isProper}
+use Rattle.records.specs.declared.Refusal.the-variants.{Taken}
+use Rattle.rules.specs.Model.{Tag, CoordinationAction, AdvanceHorizon, Silent, acquire}
+use Rattle.rules.specs.Calls.{ownStep, takeStep}
+use Rattle.bytes.specs.Runs.{putAt}
+use Rattle.bytes.proofs.Runs.{put-nil}
+use Rattle.actions.specs.Record.{recordsOf}
+use Rattle.emission.specs.Written.{Written, Adds}
+use Rattle.state.specs.declared.FederateCoordinationState.{FederateCoordinationState as Held}
+use Rattle.state.specs.View.{represents}
+use Rattle.state.proofs.Neat.{neat-parts, represents-of}
+use Rattle.state.proofs.Columns.{place}
+use Rattle.state.proofs.Put.{plain, Past, Beyond, past-same}
+use Rattle.calls.specs.declared.Called.{Called}
+use Rattle.calls.specs.Called.{lent, refusalOf, replied}
+use Rattle.calls.proofs.Refusals.{refusal-0}
+use Rattle.acquisition.specs.declared.Acquired.{Acquired}
+use Rattle.acquisition.specs.Acquire.{grantsIn, acquiredIn, Unpublished, Acquires}
+use Rattle.acquisition.proofs.Promise.{Standing, roomy, Outcome, unwritten, takes, actions-fit}
+
+-- neither 27, 8, 7 nor any later number
+pub acquire-taken : (n r : ℕ) (t : Tag) (s : Held) → Standing s → 56 * (s .count + 2) ≤ n → isProper t ≡ true
+    → 0 ≡ refusalOf (lent n (acquire r t)) s
+acquire-taken n r t s st h p = refusal-0 (lent n (acquire r t)) s (st .passing) (roomy s n h) (rw p refl) refl refl refl
+
+module _ (n r : ℕ) (t : Tag) (s : Held) (st : Standing s) (zero-is : 0 ≡ refusalOf (lent n (acquire r t)) s) (a : Acquired) (decided : Acquires r t s a) where
+  -- with flags that are those of s past the count
+  module _ (qs : List Bool) (past : Past plain false (s .count) (s .published) qs) where
+    acquired-neat : T (represents (acquiredIn s a qs))
+    acquired-neat =
+        let v = neat-parts s (st .good .neat) in
+        represents-of (acquiredIn s a qs) (record {
+          places = v .places;
+          coordination = decided .neat;
+          completion = v .completion;
+          gate = decided .tidy;
+          horizon = decided .cell;
+          failure = v .failure;
+          policy = v .policy;
+        })
+
+    acquired-beyond : Beyond s (acquiredIn s a qs)
+    acquired-beyond = record {
+      count = refl;
+      enclaves = past-same plain 0 (s .count) (s .enclaves) (s .enclaves) refl;
+      published = past;
+      observation = past-same plain 0 (s .count) (s .observation) (s .observation) refl;
+      acknowledged = past-same plain false (s .count) (s .acknowledged) (s .acknowledged) refl;
+      observed = past-same plain 0 (s .count) (s .«completion_observed») (s .«completion_observed») refl;
+      seconds = past-same place (pos 0) (s .count) (s .seconds) (s .seconds) refl;
+      nanoseconds = past-same place (pos 0) (s .count) (s .nanoseconds) (s .nanoseconds) refl;
+      microsteps = past-same place 0 (s .count) (s .microsteps) (s .microsteps) refl;
+    }
+
+  pub stays-promised : (room : List ℕ) (c : Called) → a .grants ≡ false → c ≡ replied (acquiredIn s a (s .published)) Taken Silent 0
+      → Outcome (lent n (acquire r t)) s room room c
+  unfolding takeStep ownStep
+  stays-promised room c h e =
+      let past = past-same plain false (s .count) (s .published) (s .published) refl in
+      unwritten (lent n (acquire r t)) s refl room c (acquiredIn s a (s .published)) Taken e
+      (takes (lent n (acquire r t)) s refl st zero-is (acquiredIn s a (s .published)) []
+      (acquired-beyond (s .published) past) (acquired-neat (s .published) past) (decided .stays h) .0)
+
+  pub moves-promised : (room room₁ room₂ : List ℕ) (k₁ k₂ : ℕ) (qs : List Bool) (c : Called) → 56 * (s .count + 2) ≤ length room
+      → a .grants ≡ true → Adds (AdvanceHorizon (a .horizon) ∷ []) room 0 room₁ k₁ → Adds (grantsIn s (a .tag)) room₁ k₁ room₂ k₂
+      → Unpublished (s .published) (s .seconds) (s .nanoseconds) (s .microsteps) (s .count) (a .tag) qs → c ≡ replied (acquiredIn s a qs) Taken Silent k₂
+      → Outcome (lent n (acquire r t)) s room room₂ c
+  unfolding takeStep ownStep recordsOf
+  moves-promised room room₁ room₂ k₁ k₂ qs c fits h advances grants u e =
+      let acts = AdvanceHorizon (a .horizon) ∷ grantsIn s (a .tag) in
+      let past : Past plain false (s .count) (s .published) qs = record { long = u .long; cells = λ k j p q. u .beyond j p } in
+      let step = decided .moves h qs u in
+      let p = takes (lent n (acquire r t)) s refl st zero-is (acquiredIn s a qs) acts (acquired-beyond qs past) (acquired-neat qs past) step in
+      let size = ap (λ o. length (o .actions)) step in
+      let demand = actions-fit (lent n (acquire r t)) s refl st zero-is in
+      let none : Written room [] room 0 = record { bytes = sym (put-nil room 0); number = refl } in
+      let all = grants room (AdvanceHorizon (a .horizon) ∷ []) (advances room [] none (omega arith)) (omega arith) in
+      (rw (e, all .number) (p .0), all .bytes ∙ ap (λ (l : List CoordinationAction). putAt room 0 (recordsOf l)) (sym (p .1)))
