@@ -8,3 +8,4 @@ pub mod Heard
 pub mod Room
 pub mod Refusal
 pub mod Sound
+pub mod Actions

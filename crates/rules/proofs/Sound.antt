@@ -11,7 +11,7 @@ use lib.Dec.{T, leb, ltb, eqb, leb→le, le→leb, ltb→lt, lt→ltb, nltb→le
 use lib.ListN.{length, length-map}
 use Rattle.tags.specs.Tags.{_≤ₜ_, atOrBelow, cappedBy, greaterOf, greaterPresent, isBelow, isPresent, isProper, lesserOf, lesserOfBoth, lesserPresent, properIfPresent, sameOptional}
 use Rattle.rules.specs.Acquisition.{acquireCapped, acquisitionOf, grantOf, grantedUpTo, nothingNew, progressBy, publicationSentOf, raisedHorizon, samePublication, sentUnder, stored, worthStoring}
-use Rattle.rules.specs.Calls.{allProper, ascending, call, facts, isSound, isTaken, ownStep, properAcquisition, properInputs, properParticipant, properPublication, refusal, roomFor, runCalls, takeStep}
+use Rattle.rules.specs.Calls.{allProper, ascending, call, facts, isSound, isTaken, ownStep, properAcquisition, properInputs, properParticipant, properPublication, runCalls, takeStep}
 use Rattle.rules.specs.Completion.{advanceOf, advanceTo, allAnswered, answersProbe, completeAll, completeBy, completeTagOf, finish, frontOf, inputsLeft, isHeld, leastCompleted, noted, observedOf, probeFor, widened}
 use Rattle.rules.specs.Demands.{CallKeepsSound, Each, Opening, OpeningIsSound, start, stateAfter}
 use Rattle.rules.specs.Gate.{beginTagOf, begun, inputPublishingOf, mayBegin, noticed}
@@ -23,9 +23,10 @@ use Rattle.rules.specs.Set.{withCandidate, withCompleted, withCompletion
 use Rattle.rules.specs.Stop.{failOf, stopOf}
 use Rattle.rules.specs.Walk.{all, among, at, every, find, greatestOf, is, isStopped, leastOf, only, outdated}
 use Rattle.rules.proofs.Frame.{if-true}
-use Rattle.rules.proofs.Increase.{not-not, or-left}
+use Rattle.rules.proofs.Increase.{or-left}
 use Rattle.rules.proofs.Invariants.{all-of, and-intro, each-onto, seated-each}
 use Rattle.rules.proofs.Lists.{all-each, and-left, and-right, each-map, or-right}
+use Rattle.rules.proofs.Refusal.{taken-passed}
 
 abbrev Proper : OptionalTag → Type 0
 Proper m = T (properIfPresent m)
@@ -508,14 +509,7 @@ take-keeps-sound c s h k = if-true Leaves (facts c .message) (λ u. advance-keep
 
 -- what is taken is not refused 7
 pub taken-proper : (g : Given) (s : State) → T (isTaken g s) → T (allProper (facts (g .what) .tags))
-unfolding refusal
-taken-proper g s =
-    if-true P (not (isSound s)) (λ u z. absurd z)
-    (λ u. if-true P (facts (g .what) .takesRoom && ltb (g .room) (roomFor s)) (λ w z. absurd z)
-    (λ w. if-true P (not (allProper (facts (g .what) .tags))) (λ x z. absurd z) (λ x z. not-not (allProper (facts (g .what) .tags)) x)))
-  where
-    P : ℕ → Type 0
-    P n = T (eqb n 0) → T (allProper (facts (g .what) .tags))
+taken-proper g s u = taken-passed g s u .proper
 
 pub call-keeps-sound : CallKeepsSound
 unfolding call

@@ -11,4 +11,5 @@ pub mod Gate
 pub mod Calls
 pub mod Queries
 pub mod Demands
+pub mod Actions
 pub mod Bench

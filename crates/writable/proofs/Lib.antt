@@ -1,0 +1,2 @@
+pub mod Declared
+pub mod ReadBack
