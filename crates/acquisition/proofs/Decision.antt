@@ -4,27 +4,27 @@
 use mathlib.Core.Path.{_≡_, refl, sym, ap, _∙_, subst₃}
 use mathlib.Core.Bool.{Bool, true, false, not, cond, _&&_, _||_}
 use mathlib.Core.List.{List, _∷_, map}
-use Prim.Native.Nat.{ℕ, zero, suc, _≤_, _<_}
+use Prim.Native.Nat.{ℕ, _<_}
 use native.Mathlib.Omega.{arith}
 use lib.Dec.{T, eqb}
-use Rattle.tags.specs.Tags.{_≤ₜ_, _≡ₜ_, isProper, properIfPresent, isPresent, cappedBy}
-use Rattle.records.specs.Numbers.{phaseNumber}
-use Rattle.rules.specs.Model.{Tag, OptionalTag, NoTag, At, NonePending, Stored, AdvanceHorizon}
+use Rattle.tags.specs.Tags.{_≡ₜ_, isProper, isPresent, cappedBy}
+use Rattle.rules.specs.Model.{Tag, NoTag, At, NonePending, Stored, AdvanceHorizon}
 use Rattle.rules.specs.Set.{withParticipants, withPendingPublication, withGrantHorizon, withInputAcquisition}
 use Rattle.rules.specs.Walk.{emit, outdated}
 use Rattle.rules.specs.Acquisition.{isNewer, stored, isGrantable, grants, grantedUpTo, raisedHorizon, notAbove, nothingNew, isPending, grantOf, acquireCapped, acquisitionOf}
 use Rattle.rules.proofs.Frame.{if-true}
 use Rattle.rules.proofs.Invariants.{and-intro}
-use Rattle.rules.proofs.Sound.{sound-proper-horizon, sound-proper-input-horizon, grant-keeps-sound}
+use Rattle.rules.proofs.Sound.{capped-proper, sound-proper-horizon, sound-proper-input-horizon, grant-keeps-sound}
 use Rattle.state.specs.declared.FederateCoordinationState.{FederateCoordinationState as Held}
 use Rattle.state.specs.declared.Coordination.{Coordination}
 use Rattle.state.specs.declared.Gate.{Gate}
-use Rattle.state.specs.Cells.{absent, isAbsent, isZeroUnless, optionalOf, phaseOf, storedOf, publicationIf}
+use Rattle.state.specs.Cells.{absent, isAbsent, isZeroUnless, optionalOf, storedOf, publicationIf}
 use Rattle.state.specs.View.{view, rowAt, rowsOf, neatCoordination, neatGate}
 use Rattle.state.specs.Parts.{withGate}
 use Rattle.state.specs.Decides.{Good}
 use Rattle.state.proofs.Rows.{proper-present, neat-cell, each-rows, every-row}
 use Rattle.state.proofs.Neat.{coordination-parts, coordination-whole, gate-parts, gate-whole, neat-coordination, neat-gate, neat-horizon, phase-bound}
+use Rattle.state.proofs.Round.{phase-number}
 use Rattle.acquisition.specs.declared.Acquired.{Acquired}
 use Rattle.acquisition.specs.Acquire.{storing, granting, unpending, grantsIn, acquiredIn, Unpublished, Acquires}
 
@@ -32,16 +32,6 @@ use Rattle.acquisition.specs.Acquire.{storing, granting, unpending, gran
 
 abbrev stale : ℕ → Coordination → Bool
 stale r c = eqb (c .phase) 6 || not (eqb r (c .revision))
-
-phase-number : (n : ℕ) → n ≤ 6 → phaseNumber (phaseOf n) ≡ n
-phase-number zero h = refl
-phase-number (suc zero) h = refl
-phase-number (suc (suc zero)) h = refl
-phase-number (suc (suc (suc zero))) h = refl
-phase-number (suc (suc (suc (suc zero)))) h = refl
-phase-number (suc (suc (suc (suc (suc zero))))) h = refl
-phase-number (suc (suc (suc (suc (suc (suc zero)))))) h = refl
-phase-number (suc (suc (suc (suc (suc (suc (suc n))))))) h = absurd (omega arith)
 
 abbrev worth : ℕ → Tag → Gate → Bool
 worth r t g = isPresent (optionalOf (g .«input_horizon»)) && isNewer r t (storedOf (g .«stored_revision») (g .«stored_granted»))
@@ -68,10 +58,6 @@ moved u c k h = record { grants = true; tag = u; horizon = h; coordination = c; 
 pending-is : (b : Bool) (r : ℕ) (n h : Tag) → isPending (publicationIf b r n h) ≡ b
 pending-is true r n h = refl
 pending-is false r n h = refl
-
-capped-proper : (m : OptionalTag) (t : Tag) → T (properIfPresent m) → T (isProper t) → T (isProper (cappedBy m t))
-capped-proper NoTag t h k = k
-capped-proper (At c) t h k = if-true (λ (x : Tag). T (isProper x)) (t ≤ₜ c) (λ u. k) (λ u. h)
 
 module _ (r : ℕ) (t : Tag) (p : T (isProper t)) (s : Held) (good : Good s) where
   outdated-is : outdated r (view s) ≡ stale r (s .coordination)

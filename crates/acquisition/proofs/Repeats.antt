@@ -17,7 +17,8 @@ use Rattle.state.specs.Cells.{isAbsent, optionalOf}
 use Rattle.state.specs.View.{view}
 use Rattle.calls.specs.Called.{lent, refusalOf}
 use Rattle.calls.proofs.Refusals.{refusal-0}
-use Rattle.acquisition.proofs.Promise.{Standing, roomy}
+use Rattle.calls.proofs.Standing.{Standing}
+use Rattle.calls.proofs.Ends.{roomy}
 
 holds-true : (b : Bool) → T b → b ≡ true
 holds-true true h = refl
@@ -39,7 +40,7 @@ module _ (s : Held) where
   storedRevision = s .gate .«stored_revision»
 
   pub progress-taken : (n : ℕ) → Standing s → 56 * (s .count + 2) ≤ n → 0 ≡ refusalOf (lent n progress) s
-  progress-taken n st h = refusal-0 (lent n progress) s (st .passing) (roomy s n h) refl refl refl refl
+  progress-taken n st h = refusal-0 (lent n progress) s (st .passing) (roomy progress s n h) refl refl refl refl
 
   pub progress-none : isAbsent storedTag ≡ true → takeStep progress (view s) ≡ quiet (view s)
   unfolding takeStep ownStep progressBy
@@ -66,7 +67,7 @@ module _ (s : Held) (r : ℕ) (n h : OptionalTag) where
 
   pub sent-taken : (m : ℕ) → Standing s → 56 * (s .count + 2) ≤ m → (properIfPresent n && properIfPresent h) ≡ true
       → 0 ≡ refusalOf (lent m (sent r n h)) s
-  sent-taken m st f p = refusal-0 (lent m (sent r n h)) s (st .passing) (roomy s m f) (listed (properIfPresent n) (properIfPresent h) ∙ p) refl refl refl
+  sent-taken m st f p = refusal-0 (lent m (sent r n h)) s (st .passing) (roomy (sent r n h) s m f) (listed (properIfPresent n) (properIfPresent h) ∙ p) refl refl refl
 
   -- equal to the pending one, and its next event at or below the horizon
   abbrev due : Bool

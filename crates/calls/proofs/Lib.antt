@@ -1,1 +1,3 @@
 pub mod Refusals
+pub mod Standing
+pub mod Ends

@@ -1,12 +1,11 @@
 -- The refusals of a call on the state held, one law for each link of the chain 27, 8, 7, 3, 4, 9, and what a refused and a taken call promise. By the
 -- definitions, with each test's value put in. Assumes nothing.
-use mathlib.Core.Path.{_≡_, refl, sym, ap, _∙_}
+use mathlib.Core.Path.{_≡_, refl, ap}
 use mathlib.Core.Bool.{Bool, true, false, not, cond, _&&_}
-use mathlib.Core.List.{List, []}
-use Prim.Native.Nat.{ℕ, _+_, _*_, _≤_, _<_}
+use Prim.Native.Nat.{ℕ, _+_, _*_, _<_}
 use native.Mathlib.Omega.{arith}
-use borrow.Author.Tests.{lt-ltb, le-ltb, eqb-true}
-use lib.Dec.{T, eqb, ltb}
+use borrow.Author.Tests.{eqb-true}
+use lib.Dec.{eqb, ltb}
 use lib.ListN.{length}
 use Rattle.records.specs.Numbers.{refusalNumber}
 use Rattle.records.specs.declared.Refusal.{Refusal}

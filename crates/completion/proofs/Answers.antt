@@ -25,7 +25,8 @@ use Rattle.completion.specs.declared.Advanced.{Advanced}
 use Rattle.completion.specs.declared.Least.{Least}
 use Rattle.completion.specs.Advance.{Has, Advances, CompletesLeast}
 use Rattle.completion.specs.Changes.{withProbe, isReached, finishedAt, stillAt, unblockedAt}
-use Rattle.completion.proofs.Cells.{stopped-is, either, paired, neat-finished}
+use Rattle.state.proofs.Halves.{stopped-is}
+use Rattle.completion.proofs.Cells.{either, paired, neat-finished}
 use Rattle.completion.proofs.Steps.{finish-is, still-stopped, still-missing, to-held, to-unblocked, scan-blocked, scan-free, front-is, blocks-is, answered-is}
 
 pub no-horizon : (m : OptionalTag) (h : Tag) → isAbsent h ≡ true → lesserOfBoth m (optionalOf h) ≡ NoTag

@@ -1,37 +1,16 @@
--- The rules' tests and the pending pair on the cells that hold them: a phase by its number, an optional tag by its cell, the pair of
--- inputs by its two cells. By cases on what is absent. Assumes nothing.
+-- The rules' tests and the pending pair on the cells that hold them: an optional tag by its cell, the pair of inputs by its two cells. By cases on what is absent. Assumes nothing.
 use mathlib.Core.Path.{_≡_, refl, sym, ap, _∙_, subst}
 use mathlib.Core.Bool.{Bool, true, false, not, cond}
-use Prim.Native.Nat.{ℕ, zero, suc, _≤_}
-use native.Mathlib.Omega.{arith}
-use lib.Dec.{T, eqb}
+use Prim.Native.Nat.{ℕ, _≤_}
+use lib.Dec.{T}
 use Rattle.tags.specs.Tags.{_≡ₜ_, _≤ₜ_, atOrBelow, sameOptional}
-use Rattle.records.specs.Numbers.{phaseNumber}
 use Rattle.rules.specs.Completion.{inputsLeft, marked, widened}
 use Rattle.rules.specs.Model.{At, Inputs, NoInputs, NoTag, OptionalInputs, Tag}
-use Rattle.rules.specs.Walk.{isStopped}
-use Rattle.state.specs.Cells.{absent, inputsOf, isAbsent, isNeat, optionalOf, phaseOf}
-use Rattle.state.specs.View.{represents, view}
-use Rattle.state.proofs.Neat.{NeatCompletion, phase-bound}
+use Rattle.state.specs.Cells.{absent, inputsOf, isAbsent, isNeat, optionalOf}
+use Rattle.state.proofs.Neat.{NeatCompletion}
 use Rattle.state.proofs.Rows.{neat-cell, same-tag}
 use Rattle.completion.specs.Changes.{finishedAt, isReached, widenedBy, withGeneration, withProbe}
-use Rattle.state.specs.declared.FederateCoordinationState.{FederateCoordinationState as Held}
 use Rattle.state.specs.declared.Completion.{Completion}
-
--- ---- a phase
-
-phase-stopped : (n : ℕ) → n ≤ 6 → eqb (phaseNumber (phaseOf n)) 6 ≡ eqb n 6
-phase-stopped zero h = refl
-phase-stopped (suc zero) h = refl
-phase-stopped (suc (suc zero)) h = refl
-phase-stopped (suc (suc (suc zero))) h = refl
-phase-stopped (suc (suc (suc (suc zero)))) h = refl
-phase-stopped (suc (suc (suc (suc (suc zero))))) h = refl
-phase-stopped (suc (suc (suc (suc (suc (suc zero)))))) h = refl
-phase-stopped (suc (suc (suc (suc (suc (suc (suc n))))))) h = absurd (omega arith)
-
-pub stopped-is : (s : Held) → T (represents s) → isStopped (view s) ≡ eqb (s .coordination .phase) 6
-stopped-is s whole = phase-stopped (s .coordination .phase) (phase-bound s whole)
 
 -- ---- one cell
 

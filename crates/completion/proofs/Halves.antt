@@ -4,12 +4,8 @@ use mathlib.Core.Path.{_≡_, refl, sym, ap, ap₂, _∙_}
 use mathlib.Core.Logic.{_↔_}
 use mathlib.Core.Bool.{Bool, true, false, cond, _&&_}
 use mathlib.Core.List.{List, map}
-use Prim.Native.Nat.{ℕ, _+_, _<_}
-use native.Mathlib.Omega.{arith}
+use Prim.Native.Nat.{ℕ}
 use lib.Dec.{T, eqb}
-use lib.IntN.{pos}
-use lib.Seq.{set-getD}
-use borrow.Author.Tests.{eqb-true, eqb-false}
 use Rattle.tags.specs.Tags.{isBelow, isProper}
 use Rattle.rules.specs.Model.{Tag, At, Number, OptionalInputs, Participant, State, Step}
 use Rattle.rules.specs.Set.{withCompleted, withCompletionObserved, withParticipants, withPendingInputs}
@@ -24,38 +20,13 @@ use Rattle.state.specs.declared.Next.the-variants.{Says, Completes}
 use Rattle.state.specs.declared.Decided.{Decided}
 use Rattle.state.specs.Cells.{isAbsent, optionalOf, isNeat, isZeroUnless}
 use Rattle.state.specs.View.{rowAt, rowsOf, view, neatCoordination, neatCompletion}
-use Rattle.state.specs.Parts.{Seated, rowPut, partsOf, rebuilt}
+use Rattle.state.specs.Parts.{Seated, partsOf, rebuilt}
 use Rattle.state.specs.Decides.{Good, Decides, conclusion, neatRow, neatParts}
-use Rattle.state.proofs.Rows.{tab-same, map-tab, found, proper-present, rows-rebuilt}
-use Rattle.state.proofs.Neat.{completion-parts, completion-whole, count-bounds}
+use Rattle.state.proofs.Rows.{found, proper-present}
+use Rattle.state.proofs.Neat.{completion-parts, completion-whole}
 use Rattle.completion.specs.Changes.{widenedBy}
-use Rattle.completion.proofs.Cells.{stopped-is, widened-pair, neat-present, neat-widened}
-
--- ---- a state put together again
-
--- from its own parts
-rebuilt-own : (s : Held) (i : ℕ) → rebuilt s i (partsOf s i) (s .observation) (s .gate) ≡ s
-rebuilt-own s i =
-    rw (set-getD (s .published) i false, set-getD (s .acknowledged) i false, set-getD (s .«completion_observed») i 0)
-    (rw (set-getD (s .seconds) i (pos 0), set-getD (s .nanoseconds) i (pos 0), set-getD (s .microsteps) i 0)
-    (rw (set-getD (s .seconds) (32 + i) (pos 0), set-getD (s .nanoseconds) (32 + i) (pos 0), set-getD (s .microsteps) (32 + i) 0) refl))
-
--- a change of enclave e is what it does to its participant
-only-same : (s : Held) (e i : ℕ) (f g : Participant → Participant) → Seated s e i → f (rowAt s i) ≡ g (rowAt s i)
-    → map (at e f) (rowsOf s) ≡ map (at e g) (rowsOf s)
-only-same s e i f g d h =
-    map-tab (at e f) (rowAt s) 0 (s .count) ∙
-    tab-same (λ j. at e f (rowAt s j)) (λ j. at e g (rowAt s j)) 0 (s .count) (λ j p q. place j (omega arith) (eqb j i) refl) ∙
-    sym (map-tab (at e g) (rowAt s) 0 (s .count))
-  where
-    place : (j : ℕ) → j < s .count → (b : Bool) → eqb j i ≡ b → at e f (rowAt s j) ≡ at e g (rowAt s j)
-    place j q true y = rw (eqb-true j i y, d .here) h
-    place j q false y = rw (d .others j q (eqb-false j i y)) refl
-
--- the participants with enclave e's cells stored
-rows-only : (s : Held) (e i : ℕ) (p : Parts) (g : Participant → Participant) → Good s → Seated s e i → rowPut (p .row) (rowAt s i) ≡ g (rowAt s i)
-    → rowsOf (rebuilt s i p (s .observation) (s .gate)) ≡ map (at e g) (rowsOf s)
-rows-only s e i p g good d h = rows-rebuilt s e i p (good .sized) (count-bounds s (good .sound) .1) d ∙ only-same s e i (rowPut (p .row)) g d h
+use Rattle.state.proofs.Halves.{stopped-is, rows-only, view-kept}
+use Rattle.completion.proofs.Cells.{widened-pair, neat-present, neat-widened}
 
 -- nothing is done
 abbrev pub unchanged : Parts → Decided
@@ -64,7 +35,7 @@ unchanged p = record { parts = p; forgets = false; next = Says 0 }
 decides-nothing : (rule : State → Step) (e : ℕ) (p : Parts)
     → ((s : Held) (i : ℕ) → Good s → Seated s e i → partsOf s i ≡ p → rule (view s) ≡ quiet (view s)) → Decides rule e p (unchanged p)
 unfolding conclusion
-decides-nothing rule e p h s i good d eq = h s i good d eq ∙ rw (← eq) (ap quiet (ap view (sym (rebuilt-own s i))))
+decides-nothing rule e p h s i good d eq = h s i good d eq ∙ rw (← eq) (ap quiet (sym (view-kept s e i good d)))
 
 -- ---- conjuncts replaced
 
@@ -131,7 +102,7 @@ module _ (e : ℕ) (t : Tag) (network : Bool) (p : Parts) where
         then b = completedWith (cond b (widenedBy t (s .completion)) (s .completion)) t (partsOf s i) .parts
 
         rows : (b : Bool) → rowsOf (rebuilt s i (then b) (s .observation) (s .gate)) ≡ map (at e (withCompleted (At t))) (rowsOf s)
-        rows b = rows-only s e i (then b) (withCompleted (At t)) good d (rw here refl)
+        rows b = rows-only s e i (then b) good d (withCompleted (At t)) (rw here refl)
 
         stored : (b : Bool) → view (rebuilt s i (then b) (s .observation) (s .gate)) ≡ noted e t b (view s)
         stored true =
@@ -198,7 +169,7 @@ module _ (e g : ℕ) (p : Parts) where
         kept = rw answers refl
 
         rows : rowsOf (rebuilt s i (observedWith g (partsOf s i) .parts) (s .observation) (s .gate)) ≡ map (at e (withCompletionObserved (Number g))) (rowsOf s)
-        rows = rows-only s e i (observedWith g (partsOf s i) .parts) (withCompletionObserved (Number g)) good d refl
+        rows = rows-only s e i (observedWith g (partsOf s i) .parts) good d (withCompletionObserved (Number g)) refl
 
 pub observed-neat : (g : ℕ) (p : Parts) → T (neatParts p) → T (neatParts (observedWith g p .parts))
 observed-neat g p h =

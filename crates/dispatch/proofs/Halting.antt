@@ -21,7 +21,7 @@ use Rattle.state.specs.View.{enclaveIn, isNamed, neatCoordination, view}
 use Rattle.state.specs.Parts.{Seated, partsOf}
 use Rattle.state.specs.Decides.{Decides, Good, conclusion, halfway, neatParts}
 use Rattle.state.proofs.Neat.{coordination-parts, coordination-whole}
-use Rattle.publication.proofs.Halves.{Goes, decides-by, goes-nothing, rows-kept, saying, stopped-is}
+use Rattle.state.proofs.Halves.{Goes, decides-by, goes-nothing, rows-kept, saying, stopped-is}
 use Rattle.publication.proofs.Neat.{parts-of, parts-whole}
 use Rattle.dispatch.specs.Halt.{haltedOf}
 
@@ -44,24 +44,24 @@ enclave-back (Enclave e) = refl
 module _ (e : ℕ) (s : Held) (i : ℕ) (g : Good s) (d : Seated s e i) where
   stop-nothing : s .coordination .phase ≡ 6 → Goes stopOf e (saying 0) s i
   unfolding stopOf
-  stop-nothing h = goes-nothing stopOf e s i g d (rw (stopped-is s g ∙ ap (λ n. eqb n 6) h) refl)
+  stop-nothing h = goes-nothing stopOf e s i g d (rw (stopped-is s (g .neat) ∙ ap (λ n. eqb n 6) h) refl)
 
   stop-step : (s .coordination .phase ≡ 6 → ⊥) → Goes stopOf e stopping s i
   unfolding stopOf conclusion
   stop-step h =
-      rw (stopped-is s g ∙ ne-eqb (s .coordination .phase) 6 h)
+      rw (stopped-is s (g .neat) ∙ ne-eqb (s .coordination .phase) 6 h)
       (ap (λ (ps : List Participant). emit (Stop ∷ []) (withParticipants ps (view (halfway s i (stopping (partsOf s i))))))
       (sym (rows-kept s e i (stopping (partsOf s i) .parts) g d refl)))
 
   fail-nothing : (m : OptionalEnclave) → s .coordination .phase ≡ 6 → Goes (failOf m) e (saying 0) s i
   unfolding failOf
-  fail-nothing m h = goes-nothing (failOf m) e s i g d (rw (stopped-is s g ∙ ap (λ n. eqb n 6) h) refl)
+  fail-nothing m h = goes-nothing (failOf m) e s i g d (rw (stopped-is s (g .neat) ∙ ap (λ n. eqb n 6) h) refl)
 
   fail-step : (m : OptionalEnclave) → (s .coordination .phase ≡ 6 → ⊥) → Goes (failOf m) e (failing m) s i
   unfolding failOf conclusion
   fail-step m h =
       let t = halfway s i (failing m (partsOf s i)) in
-      rw (stopped-is s g ∙ ne-eqb (s .coordination .phase) 6 h)
+      rw (stopped-is s (g .neat) ∙ ne-eqb (s .coordination .phase) 6 h)
       (ap₂ (λ (ps : List Participant) (f : OptionalEnclave). emit (Abort ∷ []) (withFirstFailure f (withParticipants ps (view t))))
       (sym (rows-kept s e i (failing m (partsOf s i) .parts) g d refl)) (sym (enclave-back m)))
 

@@ -2,19 +2,24 @@
 use mathlib.Core.Path.{_≡_, refl, sym, ap, _∙_}
 use mathlib.Core.Bool.{Bool, true, false, cond}
 use mathlib.Core.List.{List, [], _∷_, _++_, append-nil, append-assoc}
-use Prim.Native.Nat.{ℕ, zero, suc, _+_, _*_, _≤_}
+use Prim.Native.Nat.{ℕ, zero, suc, _+_, _*_}
 use native.Mathlib.Numerals.{add-one}
 use native.Mathlib.Omega.{arith}
 use lib.Dec.{eqb}
 use lib.ListN.{length, length-append}
-use Rattle.bytes.specs.Runs.{putAt, written}
+use Rattle.bytes.specs.Runs.{written}
 use Rattle.actions.specs.Record.{recordOf, recordsOf}
-use Rattle.bytes.proofs.Runs.{length-put, written-fits}
+use Rattle.bytes.proofs.Runs.{put-nil, length-put, written-fits}
 use Rattle.actions.proofs.Record.{length-record, length-records, put-next}
 use Rattle.rules.specs.Model.{CoordinationAction}
 use Rattle.state.specs.Decides.{saidOf}
 use Rattle.state.specs.Walk.{eachFrom}
 use Rattle.emission.specs.Written.{Written, Adds}
+
+-- before the first
+pub none-written : (room : List ℕ) → Written room [] room 0
+unfolding recordsOf
+none-written room = record { bytes = sym (put-nil room 0); number = refl }
 
 pub add-one-more : (room room′ : List ℕ) (n k : ℕ) (a : CoordinationAction) → room′ ≡ written room (56 * n) (recordOf a) → k ≡ n + 1 → Adds (a ∷ []) room n room′ k
 add-one-more room room′ n k a e q room₀ acts w h =

@@ -10,6 +10,10 @@ use Rattle.actions.specs.Record.{recordsOf}
 use Rattle.rules.specs.Model.{Tag, CoordinationAction, CompletionProbe}
 use Rattle.state.specs.Cells.{optionalOf, tagIn}
 use Rattle.state.specs.Walk.{eachFrom}
+use Rattle.completion.specs.Advance.{completeAction}
+use Rattle.completion.specs.declared.Advanced.{Advanced}
+use Rattle.completion.specs.declared.Saying.{Saying}
+use Rattle.completion.specs.declared.Saying.the-variants.{Nothing, Probes, Completes}
 
 -- the room, lent as room₀, now holds the records of these actions, n of them, and every later byte as it was
 pub record Written (room₀ : List ℕ) (acts : List CoordinationAction) (room : List ℕ) (n : ℕ) : Type 0 where
@@ -24,3 +28,9 @@ Adds more room n room′ n′ =
 -- a CompletionProbe to each of the first n enclaves whose completed tag is below f
 abbrev pub probesIn : List ℕ → List ℤ → List ℤ → List ℕ → ℕ → Tag → ℕ → List CoordinationAction
 probesIn es ss ns ms n f g = eachFrom (λ j. isBelow (optionalOf (tagIn ss ns ms (32 + j))) f) (λ j. CompletionProbe (getD es j 0) g) 0 n
+
+-- the actions of the completion step, on columns
+abbrev pub saidBy : List ℕ → List ℤ → List ℤ → List ℕ → ℕ → Saying → Advanced → List CoordinationAction
+saidBy es ss ns ms n Nothing a = []
+saidBy es ss ns ms n Probes a = probesIn es ss ns ms n (a .frontier) (a .completion .«completion_generation»)
+saidBy es ss ns ms n Completes a = completeAction (a .frontier) (a .mark) ∷ []

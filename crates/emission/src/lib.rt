@@ -4,13 +4,23 @@ ghost use mathlib.Core.Path.{_≡_};
 ghost use mathlib.Core.List.{[], _∷_};
 ghost use Prim.Native.Nat.{_+_, _≤_};
 ghost use mathlib.Core.Bool.{cond};
+ghost use lib.Dec.{eqb};
 ghost use Rattle.tags.specs.Tags.{isBelow};
 ghost use Rattle.rules.specs.Model.{CompletionProbe};
 ghost use Rattle.state.specs.Cells.{optionalOf};
 ghost use Rattle.state.specs.Decides.{saidOf};
-ghost use Rattle.emission.specs.Written.{Adds, probesIn};
+ghost use Rattle.publication.specs.Announce.{announcement};
+ghost use Rattle.completion.specs.Advance.{completeAction};
+ghost use Rattle.dispatch.specs.Messages.{actionsOf};
+ghost use Rattle.emission.specs.Written.{Adds, probesIn, saidBy};
+use completion::Advanced;
+use completion::Saying;
+use dispatch::Said;
 use records::CoordinationAction;
+use records::FederateCompletion;
+use records::FederatePublication;
 use state::COMPLETED;
+use state::Coordination;
 use tags::Tag;
 
 // Adds one action's record; answers how many there are then.
@@ -93,4 +103,97 @@ pub fn add_probes<'a>(
         i += 1;
     }
     place
+}
+
+// Adds Complete of a tag with its mark.
+fn add_complete(room: &mut [u8], written: usize, completed: Tag, network_input: bool) -> usize
+    requires { ⌜ written ≤ 4 ⌝ }
+    ensures { λ r. ⌜ Adds (completeAction completed «network_input» ∷ []) (now (room .entry)) written (now (room .exit)) r ⌝ }
+    ensures few { λ r. ⌜ r ≡ written + 1 ⌝ }
+{
+    let completion = FederateCompletion {
+        completed,
+        network_input,
+    };
+    add(room, written, CoordinationAction::Complete(completion))
+}
+
+// The kind where it is said, else 0, which is none.
+fn kind_if(says: bool, kind: u8) -> u8
+    ensures { λ r. ⌜ r ≡ cond says kind 0 ⌝ }
+{
+    if says { kind } else { 0 }
+}
+
+fn is_probing(c: Coordination) -> bool
+    ensures { λ r. ⌜ r ≡ eqb (c .phase) 1 ⌝ }
+{
+    c.phase == 1
+}
+
+// Publish of the pending publication, Resume if told so, Probe in phase Probing.
+fn add_announcement(room: &mut [u8], c: Coordination, resumes: bool, enclave: u32) -> usize
+    ensures { λ r. ⌜ Adds (announcement enclave resumes c) (now (room .entry)) 0 (now (room .exit)) r ⌝ }
+    ensures few { λ r. ⌜ r ≤ 3 ⌝ }
+{
+    let next = c.pending_next_event;
+    let horizon = c.pending_grant_horizon;
+    let next_event = state::optional_of(next);
+    let grant_horizon = state::optional_of(horizon);
+    let publication = FederatePublication {
+        revision: c.pending_revision,
+        next_event,
+        grant_horizon,
+    };
+    let resume = kind_if(resumes, 9);
+    let probe = kind_if(is_probing(c), 6);
+    let one = add(room, 0, CoordinationAction::Publish(publication));
+    let two = add_kind(room, one, resume, enclave, c.revision);
+    add_kind(room, two, probe, enclave, c.revision)
+}
+
+// The actions of a message's own rule, from byte 0.
+pub fn add_said(room: &mut [u8], said: Said, c: Coordination, enclave: u32) -> usize
+    ensures { λ r. ⌜ Adds (actionsOf enclave said c) (now (room .entry)) 0 (now (room .exit)) r ⌝ }
+    ensures few { λ r. ⌜ r ≤ 3 ⌝ }
+{
+    match said {
+        Said::Kind(kind) => add_kind(room, 0, kind, enclave, c.revision),
+        Said::Announcement(resumes) => add_announcement(room, c, resumes, enclave),
+        Said::Completion(tag, mark) => add_complete(room, 0, tag, mark),
+    }
+}
+
+// The actions of the completion step, after those of the own rule.
+pub fn add_saying<'a>(
+    room: &mut [u8],
+    written: usize,
+    enclaves: &'a [u32; 32],
+    seconds: &'a [i64; 96],
+    nanoseconds: &'a [i32; 96],
+    microsteps: &'a [u64; 96],
+    count: usize,
+    advanced: Advanced,
+) -> usize
+    requires { ⌜ (written ≤ 3) × (count ≤ 32) ⌝ }
+    ensures { λ r. ⌜ Adds (saidBy (now (enclaves .entry)) (now (seconds .entry)) (now (nanoseconds .entry)) (now (microsteps .entry)) count (advanced .saying) advanced) (now (room .entry)) written (now (room .exit)) r ⌝ }
+{
+    let saying = advanced.saying;
+    let frontier = advanced.frontier;
+    let completion = advanced.completion;
+    match saying {
+        Saying::Nothing => written,
+        Saying::Probes => add_probes(
+            room,
+            written,
+            enclaves,
+            seconds,
+            nanoseconds,
+            microsteps,
+            count,
+            frontier,
+            completion.completion_generation,
+        ),
+        Saying::Completes => add_complete(room, written, frontier, advanced.mark),
+    }
 }

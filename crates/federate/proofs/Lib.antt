@@ -1,6 +1,5 @@
 pub mod Message
 pub mod Scheduler
-pub mod Speaking
 pub mod Refusing
 pub mod Taking
 pub mod Undo

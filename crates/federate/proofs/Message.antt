@@ -46,7 +46,7 @@ never-wrong (message.CompletionObserved e g) s = refl
 never-wrong (message.ParticipantStopped e) s = refl
 never-wrong (message.Failed e) s = refl
 
-pub is-silent : (m : SchedulerMessage) (s : State) → Silent ≡ facts (callOf m) .answer s
+pub is-silent : (m : SchedulerMessage) (s : State) → facts (callOf m) .answer s ≡ Silent
 is-silent (message.Active e) s = refl
 is-silent (message.Publish e c) s = refl
 is-silent (message.CompleteTag e t n) s = refl
@@ -83,11 +83,11 @@ names-one (message.Failed (Enclave e)) ps = and-yes (knows e ps)
 
 -- ---- where it stands
 
-unknown-optional : (x : OptionalEnclave) (s : Held) (i : ℕ) → 0 < s .count → i ≡ placeOf x (s .enclaves) (s .count) → s .count ≤ i → knowsOptional x (rowsOf s) ≡ false
+unknown-optional : (x : OptionalEnclave) (s : Held) (i : ℕ) → 1 ≤ s .count → i ≡ placeOf x (s .enclaves) (s .count) → s .count ≤ i → knowsOptional x (rowsOf s) ≡ false
 unknown-optional NoEnclave s i h q l = absurd (omega arith)
 unknown-optional (Enclave e) s i h q l = unknown-knows s e i q l
 
-pub message-unknown : (m : SchedulerMessage) (s : Held) (i : ℕ) → 0 < s .count → i ≡ placeOf (enclaveOf m) (s .enclaves) (s .count) → s .count ≤ i → knowsAll (facts (callOf m) .names) (rowsOf s) ≡ false
+pub message-unknown : (m : SchedulerMessage) (s : Held) (i : ℕ) → 1 ≤ s .count → i ≡ placeOf (enclaveOf m) (s .enclaves) (s .count) → s .count ≤ i → knowsAll (facts (callOf m) .names) (rowsOf s) ≡ false
 message-unknown m s i h q l = names-one m (rowsOf s) ∙ unknown-optional (enclaveOf m) s i h q l
 
 -- the enclave at place i is the one that is named, if any

@@ -16,9 +16,7 @@ use Rattle.tags.specs.Tags.{properIfPresent}
 use Rattle.records.specs.declared.Refusal.the-variants.{Taken, GenerationSpent}
 use Rattle.records.specs.declared.SchedulerMessage.{SchedulerMessage}
 use Rattle.rules.specs.Model.{Tag, CoordinationAction, Silent, Step}
-use Rattle.rules.specs.Calls.{facts, allProper, ownStep, takeStep, isSound, isSpent}
-use Rattle.bytes.proofs.Runs.{put-nil}
-use Rattle.actions.specs.Record.{recordsOf}
+use Rattle.rules.specs.Calls.{facts, allProper, ownStep, takeStep, isSpent}
 use Rattle.state.specs.declared.FederateCoordinationState.{FederateCoordinationState as Held}
 use Rattle.state.specs.declared.Decided.{Decided}
 use Rattle.state.specs.declared.Row.{Row}
@@ -28,9 +26,10 @@ use Rattle.state.specs.Parts.{Sized, rowOf, partsOf, rebuilt, cleared, withCoor
 use Rattle.state.specs.Decides.{Good, Decides, halfway, neatParts}
 use Rattle.state.proofs.Neat.{place-parts, neat-place, neat-coordination, neat-completion, neat-failure}
 use Rattle.publication.proofs.Neat.{parts-whole, row-whole}
-use Rattle.calls.specs.Called.{lent, replied}
+use Rattle.calls.specs.Called.{lent, refusalOf, replied}
 use Rattle.calls.specs.declared.Called.{Called}
-use Rattle.calls.proofs.Refusals.{Passes}
+use Rattle.calls.proofs.Standing.{Standing, is-so}
+use Rattle.calls.proofs.Ends.{Ends, ends-taken, actions-fit}
 use Rattle.completion.specs.declared.Advanced.{Advanced}
 use Rattle.completion.specs.declared.Saying.{Saying}
 use Rattle.completion.specs.declared.Saying.the-variants.{Nothing, Probes, Completes}
@@ -38,18 +37,16 @@ use Rattle.completion.specs.Advance.{Advances, sayings}
 use Rattle.dispatch.specs.declared.Concluded.{Concluded}
 use Rattle.dispatch.specs.declared.Flat.{Flat}
 use Rattle.dispatch.specs.Messages.{callOf, enclaveOf, tagOf, flatOf, Names, actionsOf, Concludes}
-use Rattle.emission.specs.Written.{Written, Adds}
-use Rattle.emission.proofs.Adding.{add-then}
-use Rattle.federate.specs.Places.{saidBy}
-use Rattle.federate.proofs.Message.{message-proper, Sits}
-use Rattle.federate.proofs.Scheduler.{ownEnd, wholeEnd, good-number, halfway-fair, own-good, spent-is, step-is, end-is}
-use Rattle.federate.proofs.Refusing.{yes-T, Both, out-spent, step-fits, out-taken}
+use Rattle.emission.specs.Written.{Written, Adds, saidBy}
+use Rattle.emission.proofs.Adding.{none-written, add-then}
+use Rattle.federate.proofs.Message.{is-silent, message-proper, Sits}
+use Rattle.federate.proofs.Scheduler.{ownEnd, wholeEnd, halfway-neat, own-good, spent-is, end-beyond, end-neat, step-is}
+use Rattle.federate.proofs.Refusing.{out-spent, open-call}
 use Rattle.federate.proofs.Undo.{set-back, set-back-two}
 
 -- the enclave stands at place i, and 27, 8, 7 and 3 are passed
 pub record Enters (room : List ℕ) (m : SchedulerMessage) (s : Held) (i : ℕ) : Type 0 where
-  pub sized : Sized s
-  pub passes : Passes s
+  pub stands : Standing s
   pub wide : 56 * (s .count + 2) ≤ length room
   pub proper : properIfPresent (tagOf m) ≡ true
   pub place : Sits (enclaveOf m) s i
@@ -123,22 +120,15 @@ said-by s Nothing a = refl
 said-by s Probes a = refl
 said-by s Completes a = refl
 
-nothing : (room : List ℕ) → Written room [] room 0
-unfolding recordsOf
-nothing room = record { bytes = sym (put-nil room 0); number = refl }
-
 module _ (room : List ℕ) (m : SchedulerMessage) (s : Held) (i : ℕ) (n : Enters room m s i) where
-  pub good : Good s
-  good = record { sized = n .sized; neat = yes-T (represents s) (n .passes .neat); sound = yes-T (isSound (view s)) (n .passes .sound) }
-
-  pub few : s .count ≤ 32
-  few = good-number s good .1
+  good : Good s
+  good = n .stands .good
 
   within : i < s .count
   within = n .place .seat .within
 
   proper : T (allProper (facts (callOf m) .tags))
-  proper = yes-T (allProper (facts (callOf m) .tags)) (message-proper m ∙ n .proper)
+  proper = is-so (message-proper m ∙ n .proper)
 
   neat-own : T (neatParts (partsOf s i))
   neat-own =
@@ -172,37 +162,34 @@ module _ (room : List ℕ) (m : SchedulerMessage) (s : Held) (i : ℕ) (n : Ente
 
   module _ (d : Decided) (neat : T (neatParts (d .parts))) where
     pub halfway-holds : T (represents (halfway s i d))
-    halfway-holds = halfway-fair s i d good within neat .neat
+    halfway-holds = halfway-neat s i d good within neat
 
     module _ (decides : Decides (ownStep (callOf m)) (getD (s .enclaves) i 0) (partsOf s i) d) (k : Concluded)
         (concludes : Concludes (halfway s i d) (getD (s .enclaves) i 0) (d .next) k) where
       pub own-holds : T (represents (ownEnd s i d k))
-      own-holds = own-good s m i d k good (n .place) (yes-T (properIfPresent (tagOf m)) (n .proper)) decides neat concludes .neat
+      own-holds = own-good s m i d k good (n .place) (is-so (n .proper)) decides neat concludes .neat
 
       module _ (a : Advanced) (advances : Advances (ownEnd s i d k) a) (r : Called) where
+        spent : (facts (callOf m) .message && isSpent (ownStep (callOf m) (view s) .state)) ≡ a .spent
+        spent = spent-is s m i d k good (n .place) (is-so (n .proper)) decides neat concludes a advances
+
         pub ends-9 : a .spent ≡ true → (x w : Row) → w ≡ rowOf s i → r ≡ replied (withRow (withRow s i x) i w) GenerationSpent Silent 0
-            → Both (lent (length room) (callOf m)) s r room room
+            → Ends (lent (length room) (callOf m)) s r room room
         ends-9 h x w row q =
-            out-spent room m s r (n .passes) (n .wide) (n .proper) i (n .place) (withRow (withRow s i x) i w) (a .spent)
-            (spent-is s m i d k good (n .place) (yes-T (properIfPresent (tagOf m)) (n .proper)) decides neat concludes a advances) h
-            (undone s i x w (n .sized) (let z = few in let y = within in omega arith) row) q
+            out-spent room m s (n .stands) (n .wide) (n .proper) i (n .place) spent (withRow (withRow s i x) i w) h
+            (undone s i x w (good .sized) (let z = n .stands .few in let y = within in omega arith) row) q
 
         ends-so : a .spent ≡ false → (room₁ room₂ : List ℕ) (one two : ℕ)
             → Adds (actionsOf (getD (s .enclaves) i 0) (k .said) (k .coordination)) room 0 room₁ one
             → Adds (saidBy (s .enclaves) (halfway s i d .seconds) (halfway s i d .nanoseconds) (halfway s i d .microsteps) (s .count) (a .saying) a) room₁ one room₂ two
-            → r ≡ replied (wholeEnd s i d k a) Taken Silent two → Both (lent (length room) (callOf m)) s r room room₂
+            → r ≡ replied (wholeEnd s i d k a) Taken Silent two → Ends (lent (length room) (callOf m)) s r room room₂
         ends-so free room₁ room₂ one two own after q =
-            out-taken room m s r (n .passes) (n .wide) (n .proper) i (n .place) (a .spent) spent free (wholeEnd s i d k a) room₂ two ends
-            (subst (λ (l : List CoordinationAction). Written room l room₂ two) (sym acts) written) q
+            ends-taken (lent (length room) (callOf m)) s room (is-silent m (view s)) (n .stands) unrefused (wholeEnd s i d k a) (said ++ later)
+            (end-beyond s m i d k good (n .place) (is-so (n .proper)) decides neat concludes a advances)
+            (end-neat s m i d k good (n .place) (is-so (n .proper)) decides neat concludes a advances) step (written .number) (written .bytes) q
           where
-            good-tag : T (properIfPresent (tagOf m))
-            good-tag = yes-T (properIfPresent (tagOf m)) (n .proper)
-
-            spent : (facts (callOf m) .message && isSpent (ownStep (callOf m) (view s) .state)) ≡ a .spent
-            spent = spent-is s m i d k good (n .place) good-tag decides neat concludes a advances
-
-            ends : wholeEnd s i d k a ≡ put s (takeStep (callOf m) (view s) .state)
-            ends = end-is s m i d k good (n .place) good-tag decides neat concludes a advances free
+            unrefused : 0 ≡ refusalOf (lent (length room) (callOf m)) s
+            unrefused = open-call room m s (n .stands) (n .wide) (n .proper) i (n .place) spent free
 
             said : List CoordinationAction
             said = actionsOf (getD (s .enclaves) i 0) (k .said) (k .coordination)
@@ -210,23 +197,25 @@ module _ (room : List ℕ) (m : SchedulerMessage) (s : Held) (i : ℕ) (n : Ente
             later : List CoordinationAction
             later = sayings (a .saying) (ownEnd s i d k) a
 
-            acts : takeStep (callOf m) (view s) .actions ≡ said ++ later
-            acts = ap (λ (o : Step). o .actions) (step-is s m i d k good (n .place) good-tag decides neat concludes a advances free)
+            step : takeStep (callOf m) (view s) ≡ record { state = view (wholeEnd s i d k a); actions = said ++ later }
+            step = step-is s m i d k good (n .place) (is-so (n .proper)) decides neat concludes a advances free
 
-            fits : 56 * length (said ++ later) ≤ length room
-            fits = subst (λ (l : List CoordinationAction). 56 * length l ≤ length room) acts (step-fits room m s r (n .passes) (n .wide) (n .proper) i (n .place) (a .spent) spent free)
+            fits : 56 * length (said ++ later) ≤ 56 * (s .count + 2)
+            fits =
+                subst (λ (o : Step). 56 * length (o .actions) ≤ 56 * (s .count + 2)) step
+                (actions-fit (lent (length room) (callOf m)) s (n .stands .passing) unrefused)
 
             written : Written room (said ++ later) room₂ two
             written =
                 add-then said later room room₁ room₂ 0 one two own (subst (λ (l : List CoordinationAction). Adds l room₁ one room₂ two) (said-by (ownEnd s i d k) (a .saying) a) after)
-                room [] (nothing room) (let z = fits in omega arith)
+                room [] (none-written room) (let z = fits in let y = n .wide in omega arith)
 
         -- whatever the state handed back is called
-        pub ends-taken : a .spent ≡ false → (t : Held) → t ≡ wholeEnd s i d k a → (room₁ room₂ : List ℕ) (one two : ℕ)
+        pub ends-0 : a .spent ≡ false → (t : Held) → t ≡ wholeEnd s i d k a → (room₁ room₂ : List ℕ) (one two : ℕ)
             → Adds (actionsOf (getD (t .enclaves) i 0) (k .said) (k .coordination)) room 0 room₁ one
             → Adds (saidBy (t .enclaves) (t .seconds) (t .nanoseconds) (t .microsteps) (s .count) (a .saying) a) room₁ one room₂ two
-            → r ≡ replied t Taken Silent two → Both (lent (length room) (callOf m)) s r room room₂
-        ends-taken free t z room₁ room₂ one two own after q =
+            → r ≡ replied t Taken Silent two → Ends (lent (length room) (callOf m)) s r room room₂
+        ends-0 free t z room₁ room₂ one two own after q =
             ends-so free room₁ room₂ one two
             (subst (λ (x : Held). Adds (actionsOf (getD (x .enclaves) i 0) (k .said) (k .coordination)) room 0 room₁ one) z own)
             (subst (λ (x : Held). Adds (saidBy (x .enclaves) (x .seconds) (x .nanoseconds) (x .microsteps) (s .count) (a .saying) a) room₁ one room₂ two) z after)

@@ -1,31 +1,13 @@
 -- A participant's cells put back where they stood: every column is again as it was. Assumes nothing.
-use mathlib.Core.Path.{_≡_, refl, sym, _∙_}
+use mathlib.Core.Path.{_≡_, refl, _∙_}
 use mathlib.Core.Bool.{Bool, true, false}
-use mathlib.Core.List.{List, map}
+use mathlib.Core.List.{List}
 use Prim.Native.Nat.{ℕ, _<_}
 use native.Mathlib.Omega.{arith}
 use borrow.Author.Tests.{eqb-true, eqb-false}
 use lib.Dec.{eqb}
-use lib.IntN.{ℤ}
-use lib.ListN.{length, getD, set, length-set, length-map}
+use lib.ListN.{length, getD, set, length-set}
 use lib.Seq.{ext-getD, getD-set-same, getD-set-other}
-use Rattle.state.specs.declared.FederateCoordinationState.{FederateCoordinationState as Held}
-use Rattle.state.specs.Parts.{Sized}
-
--- from what a call is handed of a state
-pub sized-of : (s : Held) → length (map (λ (v : ℕ). v) (s .enclaves)) ≡ 32 → length (map (λ (v : Bool). v) (s .published)) ≡ 32 → length (map (λ (v : ℕ). v) (s .observation)) ≡ 32
-    → length (map (λ (v : Bool). v) (s .acknowledged)) ≡ 32 → length (map (λ (v : ℕ). v) (s .«completion_observed»)) ≡ 32 → length (map (λ (v : ℤ). v) (s .seconds)) ≡ 96
-    → length (map (λ (v : ℤ). v) (s .nanoseconds)) ≡ 96 → length (map (λ (v : ℕ). v) (s .microsteps)) ≡ 96 → Sized s
-sized-of s a b c d e f g h = record {
-  enclaves = sym (length-map (s .enclaves) (λ v. v)) ∙ a;
-  published = sym (length-map (s .published) (λ v. v)) ∙ b;
-  observation = sym (length-map (s .observation) (λ v. v)) ∙ c;
-  acknowledged = sym (length-map (s .acknowledged) (λ v. v)) ∙ d;
-  observed = sym (length-map (s .«completion_observed») (λ v. v)) ∙ e;
-  seconds = sym (length-map (s .seconds) (λ v. v)) ∙ f;
-  nanoseconds = sym (length-map (s .nanoseconds) (λ v. v)) ∙ g;
-  microsteps = sym (length-map (s .microsteps) (λ v. v)) ∙ h;
-}
 
 -- a cell put back: it is as it was, and so is every other
 module _ {A : Type 0} (d : A) where

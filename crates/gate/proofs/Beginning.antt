@@ -25,9 +25,9 @@ use Rattle.state.proofs.Rows.{proper-present, neat-cell, tag-set-same, tag-set-
 use Rattle.state.proofs.Neat.{neat-parts, represents-of, place-parts, place-whole}
 use Rattle.state.proofs.Columns.{OfStarted}
 use Rattle.state.proofs.Put.{Beyond, plain, past-same, past-set-tag}
-use Rattle.publication.proofs.Halves.{stopped-is}
+use Rattle.state.proofs.Halves.{stopped-is}
 use Rattle.gate.specs.Parts.{permits}
-use Rattle.gate.proofs.Seats.{any-seated, any-unknown}
+use Rattle.state.proofs.Seats.{any-seated, any-unknown}
 
 -- ---- the tests of may_begin
 
@@ -77,7 +77,7 @@ module _ (s : Held) (e : ℕ) (t : Tag) where
     pub may-known : (i : ℕ) → Good s → Seated s e i → mayBegin (view s .inputHorizon) e t (view s) ≡ permits (s .coordination .phase) (s .gate) t
     may-known i g d =
         ap (λ m. mayBegin m e t (view s)) a-horizon ∙
-        ap₂ (λ a b. not a && t ≤ₜ s .gate .«input_horizon» && b) (stopped-is s g) (any-seated s e i d (λ p. within t (p .granted)))
+        ap₂ (λ a b. not a && t ≤ₜ s .gate .«input_horizon» && b) (stopped-is s (g .neat)) (any-seated s e i d (λ p. within t (p .granted)))
 
     pub step-begun : may ≡ true → takeStep (begin e t) (view s) ≡ quiet (only e (withStarted (At t)) (view s))
     unfolding takeStep ownStep beginTagOf

@@ -11,7 +11,7 @@ use Rattle.tags.specs.Tags.{within, isProper, properIfPresent}
 use Rattle.records.specs.Numbers.{refusalNumber}
 use Rattle.records.specs.declared.Refusal.{Refusal}
 use Rattle.records.specs.declared.Refusal.the-variants.{Taken, UnsoundState, ImproperTag}
-use Rattle.rules.specs.Model.{Tag, OptionalTag, At, State, Answer, Silent, No, Call, Given, horizon, begin, late, done, input}
+use Rattle.rules.specs.Model.{Tag, OptionalTag, At, State, Silent, No, Call, Given, horizon, begin, late, done, input}
 use Rattle.rules.specs.Walk.{knows, quiet}
 use Rattle.rules.specs.Gate.{isLate, isCompleted}
 use Rattle.rules.specs.Calls.{facts, says, ownStep, takeStep, isSound, roomFor, allProper, knowsAll, isSpent, refusedAnswer}
@@ -22,15 +22,15 @@ use Rattle.state.specs.View.{rowsOf, view, put, represents}
 use Rattle.state.specs.Parts.{withGate}
 use Rattle.state.proofs.Rows.{known, neat-cell, optional-cell, rows-gate}
 use Rattle.state.proofs.Neat.{gate-parts, gate-whole, neat-gate, neat-with-gate}
-use Rattle.state.proofs.Put.{Beyond, beyond-columns, beyond-refl, holds-is-put}
+use Rattle.state.proofs.Put.{beyond-columns}
 use Rattle.calls.specs.declared.Called.{Called}
 use Rattle.calls.specs.declared.Reply.{Reply}
 use Rattle.calls.specs.Called.{refusalOf, Promised, lent, replied}
 use Rattle.calls.proofs.Refusals.{Passes, passes, refusal-27, refusal-7, refusal-3, refusal-0, refused, taken}
+use Rattle.calls.proofs.Standing.{Standing, promised-taken}
 use Rattle.gate.specs.Replies.{Replies, Admits, Finds}
 use Rattle.gate.specs.Parts.{cappedOf}
-use Rattle.gate.proofs.Standing.{Standing}
-use Rattle.gate.proofs.Seats.{any-seated, any-unknown}
+use Rattle.state.proofs.Seats.{any-seated, any-unknown}
 
 -- ---- the refusals
 
@@ -77,26 +77,6 @@ pub refused-no : (b : Bool) → No ≡ refusedAnswer (says b)
 refused-no true = refl
 refused-no false = refl
 
-module _ (g : Given) (s : Held) where
-  pub ends-refused : (r : Called) (n : Refusal) (a : Answer) → r ≡ replied s n a 0 → refusalNumber n ≡ refusalOf g s → 0 < refusalNumber n
-      → a ≡ refusedAnswer (facts (g .what) .answer (view s)) → Promised g s r
-  ends-refused r n a e h l x = subst (Promised g s) (sym e) (refused g s n a h l x)
-
-  pub ends-27 : (r : Called) (a : Answer) → r ≡ replied s UnsoundState a 0 → (represents s && isSound (view s)) ≡ false
-      → a ≡ refusedAnswer (facts (g .what) .answer (view s)) → Promised g s r
-  ends-27 r a e h x = ends-refused r UnsoundState a e (refusal-27 g s h) (omega arith) x
-
-  pub ends-taken : Standing s → (t : Held) (r : Called) (a : Answer) → r ≡ replied t Taken a 0 → 0 ≡ refusalOf g s → a ≡ facts (g .what) .answer (view s)
-      → takeStep (g .what) (view s) ≡ quiet (view t) → Beyond s t → T (represents t) → Promised g s r
-  ends-taken st t r a e z x q b h =
-      subst (Promised g s) (sym e)
-      (taken g s t a 0 z x (ap (λ o. length (o .actions)) (sym q))
-      (holds-is-put s t (takeStep (g .what) (view s) .state) (st .good .sized) (st .bounds .one) (st .bounds .few) b h (ap (λ o. o .state) (sym q))))
-
-  pub ends-unchanged : Standing s → (r : Called) (a : Answer) → r ≡ replied s Taken a 0 → 0 ≡ refusalOf g s → a ≡ facts (g .what) .answer (view s)
-      → takeStep (g .what) (view s) ≡ quiet (view s) → Promised g s r
-  ends-unchanged st r a e z x q = ends-taken st s r a e z x q (beyond-refl s) (st .good .neat)
-
 -- ---- set_input_horizon
 
 module _ (s : Held) (h : OptionalTag) (st : Standing s) (proper : properIfPresent h ≡ true) where
@@ -130,9 +110,9 @@ module _ (s : Held) (h : OptionalTag) (st : Standing s) (proper : properIfPresen
 
   pub ends-capped : (g : Gate) (r : Called) → g ≡ cappedOf (s .gate) h → r ≡ replied (withGate g s) Taken Silent 0 → Promised (lent 0 (horizon h)) s r
   ends-capped g r q e =
-      ends-taken (lent 0 (horizon h)) s st (withGate (cappedOf (s .gate) h) s) r Silent (e ∙ ap (λ x. replied (withGate x s) Taken Silent 0) q)
-      (asks-0 (horizon h) h (asks-horizon h) s (st .passing) proper) refl step-capped
-      (beyond-columns s (withGate (cappedOf (s .gate) h) s) refl refl refl refl refl refl refl refl refl) capped-neat
+      promised-taken (lent 0 (horizon h)) s st (asks-0 (horizon h) h (asks-horizon h) s (st .passing) proper) Silent refl (withGate (cappedOf (s .gate) h) s) []
+      (beyond-columns s (withGate (cappedOf (s .gate) h) s) refl refl refl refl refl refl refl refl refl) capped-neat step-capped refl
+      (e ∙ ap (λ x. replied (withGate x s) Taken Silent 0) q)
 
 -- ---- what is promised of a question that hands no state back
 

@@ -1,5 +1,4 @@
 pub mod Turns
-pub mod Standing
 pub mod Seats
 pub mod Ends
 pub mod Beginning

@@ -2,7 +2,7 @@
 -- rule's. By the participants place by place. Assumes nothing.
 use mathlib.Core.Path.{_≡_, refl, sym, _∙_, subst}
 use mathlib.Core.Bool.{Bool, true, false, not}
-use mathlib.Core.List.{List, map, map-map}
+use mathlib.Core.List.{List, map, map-map, []}
 use Prim.Native.Nat.{ℕ, _+_, _-_, _≤_, _<_}
 use native.Mathlib.Omega.{arith}
 use borrow.Author.Tests.{not-true, not-false}
@@ -34,9 +34,9 @@ use Rattle.calls.specs.Called.{Promised, lent, replied}
 use Rattle.publication.specs.Revise.{revisedOf, unprobedOf}
 use Rattle.publication.proofs.Neat.{neat-revised, neat-unprobed}
 use Rattle.gate.specs.Parts.{droppedOf, allFound, staysAt, unlisted}
-use Rattle.gate.proofs.Standing.{Standing}
 use Rattle.gate.proofs.Seats.{knows-found}
-use Rattle.gate.proofs.Ends.{input-3, input-0, ends-refused, ends-taken}
+use Rattle.calls.proofs.Standing.{Standing, promised-refused, promised-taken}
+use Rattle.gate.proofs.Ends.{input-3, input-0}
 
 -- the state with these flags, observations and small parts
 abbrev pub storing : Held → List Bool → List ℕ → Coordination → Completion → Gate → Held
@@ -161,15 +161,16 @@ module _ (s : Held) (es : List ℕ) (g : Good s) (few : s .count ≤ 32) where
 
 module _ (s : Held) (es : List ℕ) (st : Standing s) {known : Bool} (q : known ≡ allFound (s .enclaves) (s .count) es) where
   knowing : knowsAll es (rowsOf s) ≡ known
-  knowing = knows-found s (st .bounds .ascends) es ∙ sym q
+  knowing = knows-found s (st .ascends) es ∙ sym q
 
   pub ends-unknown : (r : Called) → not known ≡ true → r ≡ replied s UnknownEnclave Silent 0 → Promised (lent 0 (input es)) s r
-  ends-unknown r h e = ends-refused (lent 0 (input es)) s r UnknownEnclave Silent e (input-3 es s (st .passing) (knowing ∙ not-true known h)) (omega arith) refl
+  ends-unknown r h e = promised-refused (lent 0 (input es)) s UnknownEnclave Silent (input-3 es s (st .passing) (knowing ∙ not-true known h)) (omega arith) refl e
 
   pub ends-noticed : (published : List Bool) (observation : List ℕ) (c : Coordination) (k : Completion) (g : Gate) (r : Called) → not known ≡ false
       → published ≡ unlisted (s .enclaves) es (s .published) (s .count) → observation ≡ cleared (s .count) (s .observation) → c ≡ revisedOf (s .coordination)
       → k ≡ unprobedOf (s .completion) → g ≡ droppedOf (s .gate) → r ≡ replied (storing s published observation c k g) Taken Silent 0 → Promised (lent 0 (input es)) s r
   ends-noticed published observation c k g r h p o x y z e =
-      let few = st .bounds .few in
-      ends-taken (lent 0 (input es)) s st (noticedState s es) r Silent (e ∙ (λ i. replied (storing s (p i) (o i) (x i) (y i) (z i)) Taken Silent 0))
-      (input-0 es s (st .passing) (knowing ∙ not-false known h)) refl (step-noticed s es (st .good) few) (noticed-beyond s es (st .good) few) (noticed-neat s es (st .good) few)
+      let few = st .few in
+      promised-taken (lent 0 (input es)) s st (input-0 es s (st .passing) (knowing ∙ not-false known h)) Silent refl (noticedState s es) []
+      (noticed-beyond s es (st .good) few) (noticed-neat s es (st .good) few) (step-noticed s es (st .good) few) refl
+      (e ∙ (λ i. replied (storing s (p i) (o i) (x i) (y i) (z i)) Taken Silent 0))

@@ -22,7 +22,8 @@ use Rattle.state.proofs.Neat.{coordination-parts, coordination-whole, neat-coor
 use Rattle.observation.specs.declared.Said.the-variants.{Nothing, Says}
 use Rattle.observation.specs.declared.Moved.{Moved}
 use Rattle.observation.specs.Moves.{Moves, inPhase, withoutPending}
-use Rattle.observation.proofs.Numbers.{phase-numbered, coordinated-numbered}
+use Rattle.state.proofs.Round.{phase-number}
+use Rattle.observation.proofs.Numbers.{coordinated-numbered}
 
 -- the coordination once idle is confirmed, with this revision
 abbrev probing : ℕ → Coordination
@@ -58,7 +59,7 @@ neat-probing n = coordination-whole (probing n) (record { phase = omega arith; a
 
 module _ (s : Held) (h : T (represents s)) where
   pub phase-is : (k : CoordinationPhase) → is k (view s) ≡ eqb (s .coordination .phase) (phaseNumber k)
-  phase-is k = ap (λ n. eqb n (phaseNumber k)) (phase-numbered (s .coordination .phase) (phase-bound s h))
+  phase-is k = ap (λ n. eqb n (phaseNumber k)) (phase-number (s .coordination .phase) (phase-bound s h))
 
   abbrev authorizedNow : Bool
   authorizedNow = isNumber (numberIf (s .coordination .authorized) (s .coordination .«idle_authorization»)) (s .coordination .revision)

@@ -1,5 +1,4 @@
 pub mod Numbers
 pub mod Deciding
-pub mod Ends
 pub mod Observing
 pub mod Taking

@@ -1,4 +1,4 @@
--- The numbers of phases, policies, observations and verdicts say the same as their cases, and the table of numbers the same as the rules' table of
+-- The numbers of policies, observations and verdicts say the same as their cases, and the table of numbers the same as the rules' table of
 -- verdicts: each by its few cases. Assumes nothing.
 use mathlib.Core.Path.{_≡_, refl, ap, _∙_}
 use mathlib.Core.List.{List, [], _∷_, map}
@@ -7,33 +7,15 @@ use native.Mathlib.Nat.{not-suc-le-zero}
 use native.Mathlib.Omega.{arith}
 use lib.Dec.{eqb}
 use lib.ListN.{length, getD}
-use Rattle.records.specs.Numbers.{phaseNumber, observationNumber, verdictNumber}
-use Rattle.rules.specs.Model.{CoordinationPhase, Active, Probing, Parking, Rechecking, Parked, AwaitingIdleConfirmation, Stopped, Observation, Probed, HasParked, Rechecked}
+use Rattle.records.specs.Numbers.{observationNumber, verdictNumber}
+use Rattle.rules.specs.Model.{Observation, Probed, HasParked, Rechecked}
 use Rattle.rules.specs.Model.{Verdict, Counts, Ignored, Refused}
 use Rattle.rules.specs.Observation.{verdicts, verdictOf, hasObserved, isCoordinated}
 use Rattle.state.specs.Cells.{phaseOf, policyOf, observationOf}
+use Rattle.state.proofs.Round.{phase-number}
 use Rattle.observation.specs.Moves.{verdictNumbered}
 
 -- ---- numbers of enums
-
-pub phase-numbered : (n : ℕ) → n ≤ 6 → phaseNumber (phaseOf n) ≡ n
-phase-numbered zero h = refl
-phase-numbered (suc zero) h = refl
-phase-numbered (suc (suc zero)) h = refl
-phase-numbered (suc (suc (suc zero))) h = refl
-phase-numbered (suc (suc (suc (suc zero)))) h = refl
-phase-numbered (suc (suc (suc (suc (suc zero))))) h = refl
-phase-numbered (suc (suc (suc (suc (suc (suc zero)))))) h = refl
-phase-numbered (suc (suc (suc (suc (suc (suc (suc n))))))) h = absurd (omega arith)
-
-pub phase-below : (p : CoordinationPhase) → phaseNumber p ≤ 6
-phase-below Active = omega arith
-phase-below Probing = omega arith
-phase-below Parking = omega arith
-phase-below Rechecking = omega arith
-phase-below Parked = omega arith
-phase-below AwaitingIdleConfirmation = omega arith
-phase-below Stopped = omega arith
 
 pub observation-bound : (o : Observation) → observationNumber o ≤ 2
 observation-bound Probed = omega arith
@@ -80,4 +62,4 @@ table-entry numbers e k h = ap (λ l. getD l k 0) e ∙ entry-map verdictNumber 
 pub looked-up-verdict : (phase : ℕ) (o : Observation) {column number : ℕ} {v : Verdict} → phase ≤ 6 → column ≡ observationNumber o
     → number ≡ verdictNumber (getD verdicts (phase * 3 + column) Ignored) → v ≡ verdictNumbered number → v ≡ verdictOf (phaseOf phase) o
 looked-up-verdict phase o h e f g =
-    rw (phase-numbered phase h) (g ∙ ap verdictNumbered f ∙ verdict-numbered _ ∙ ap (λ k. getD verdicts (phase * 3 + k) Ignored) e)
+    rw (phase-number phase h) (g ∙ ap verdictNumbered f ∙ verdict-numbered _ ∙ ap (λ k. getD verdicts (phase * 3 + k) Ignored) e)

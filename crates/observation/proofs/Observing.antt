@@ -1,9 +1,9 @@
 -- An observation on the cells: the test of a repeat and of all having it, the cell stored and all cells cleared are what the rule does to the
 -- participants; the verdict on the numbers is the rule's. By the one place that holds the enclave. Assumes nothing.
 use mathlib.Core.Path.{_≡_, refl, sym, ap, _∙_}
-use mathlib.Core.Bool.{Bool, true, false, not, cond, _&&_, _||_}
+use mathlib.Core.Bool.{Bool, true, false, not, cond, _&&_}
 use mathlib.Core.List.{List}
-use Prim.Native.Nat.{ℕ, zero, suc, _+_, _≤_, _<_}
+use Prim.Native.Nat.{ℕ, _+_, _≤_, _<_}
 use native.Mathlib.Omega.{arith}
 use lib.Dec.{T, eqb}
 use lib.ListN.{getD, set}
@@ -18,12 +18,13 @@ use Rattle.rules.specs.Observation.{verdictOf, isRefused, hasObserved, observes
 use Rattle.rules.specs.Calls.{facts}
 use Rattle.state.specs.declared.FederateCoordinationState.{FederateCoordinationState as Held}
 use Rattle.state.specs.Cells.{phaseOf, observationOf as cellMeans}
-use Rattle.state.specs.Walk.{allOf, anyOf}
+use Rattle.state.specs.Walk.{allOf}
 use Rattle.state.specs.View.{view, represents}
 use Rattle.state.specs.Parts.{Sized, Seated, cleared}
-use Rattle.state.proofs.Rows.{all-rows, any-rows, all-same, only-row, every-row, cell-set-same, cleared-within}
+use Rattle.state.proofs.Rows.{all-rows, all-same, only-row, every-row, cell-set-same, cleared-within}
 use Rattle.state.proofs.Neat.{NeatPlace, place-parts, place-whole, neat-parts, represents-of}
 use Rattle.state.proofs.Round.{observation-cell}
+use Rattle.state.proofs.Seats.{any-seated}
 use Rattle.observation.specs.Moves.{unheardBy}
 use Rattle.observation.proofs.Numbers.{observed-cell, observation-bound}
 use Rattle.observation.proofs.Deciding.{phase-is}
@@ -67,27 +68,6 @@ neat-with-observations s o h k =
 
 -- ---- the walks
 
--- an any-walk over places where one alone can pass
-any-none : (p : ℕ → Bool) (k n : ℕ) → ((j : ℕ) → k ≤ j → j < k + n → p j ≡ false) → anyOf p k n ≡ false
-unfolding anyOf
-any-none p k zero h = refl
-any-none p k (suc n) h = rw (h k (omega arith) (omega arith)) (any-none p (k + 1) n (λ j l m. h j (omega arith) (omega arith)))
-
-any-one : (p : ℕ → Bool) (k n i : ℕ) → k ≤ i → i < k + n → ((j : ℕ) → j < k + n → (j ≡ i → ⊥) → p j ≡ false) → anyOf p k n ≡ p i
-unfolding anyOf
-any-one p k zero i l m h = absurd (omega arith)
-any-one p k (suc n) i l m h = go (λ w. any-one p (k + 1) n i w (omega arith) (λ j u v. h j (omega arith) v)) (eqb k i) refl
-  where
-    or-false : (b : Bool) → (b || false) ≡ b
-    or-false true = refl
-    or-false false = refl
-
-    go : (k + 1 ≤ i → anyOf p (k + 1) n ≡ p i) → (b : Bool) → eqb k i ≡ b → (p k || anyOf p (k + 1) n) ≡ p i
-    go ih true e =
-        let q = eqb-true k i e in
-        rw (any-none p (k + 1) n (λ j u v. h j (omega arith) (λ z. omega arith))) (or-false (p k) ∙ ap p q)
-    go ih false e = let q = eqb-false k i e in rw (h k (omega arith) q) (ih (omega arith))
-
 -- the cell k is this observation's
 module _ (s : Held) (h : T (represents s)) (o : Observation) (k : ℕ) (g : k ≡ observationNumber o + 1) where
   cell-is : (j : ℕ) → j < s .count → hasObserved o (cellMeans (getD (s .observation) j 0)) ≡ eqb (getD (s .observation) j 0) k
@@ -97,11 +77,7 @@ module _ (s : Held) (h : T (represents s)) (o : Observation) (k : ℕ) (g : k �
   all-is = all-rows s (λ p. hasObserved o (p .observation)) ∙ all-same _ _ 0 (s .count) (λ j l m. cell-is j (omega arith))
 
   pub already-is : (e i : ℕ) → Seated s e i → observedAlready e o (view s) ≡ eqb (getD (s .observation) i 0) k
-  already-is e i d =
-      let w = d .within in
-      any-rows s (λ p. eqb (p .index) e && hasObserved o (p .observation)) ∙
-      any-one _ 0 (s .count) i (omega arith) (omega arith) (λ j l n. rw (d .others j (omega arith) n) refl) ∙
-      rw (d .here) (cell-is i w)
+  already-is e i d = any-seated s e i d (λ p. hasObserved o (p .observation)) ∙ cell-is i (d .within)
 
 -- ---- the cell stored
 

@@ -3,7 +3,7 @@
 use mathlib.Core.Path.{_≡_, refl, sym, ap, _∙_}
 use mathlib.Core.Bool.{Bool, true, false}
 use mathlib.Core.List.{List, []}
-use Prim.Native.Nat.{ℕ, _+_, _≤_, _<_}
+use Prim.Native.Nat.{ℕ, _+_, _*_, _≤_, _<_}
 use native.Mathlib.Omega.{arith}
 use lib.Dec.{T, eqb}
 use lib.ListN.{length, getD, set, length-set}
@@ -16,7 +16,6 @@ use Rattle.rules.specs.Model.{Silent, State, Step, Call, observe, idle, stop, O
 use Rattle.rules.specs.Stop.{stopOf}
 use Rattle.rules.specs.Observation.{isRefused, allObserved, observedAlready, agreed, tally, observeBy, observationOf, idleConfirmationOf}
 use Rattle.rules.specs.Calls.{facts, plain as bare, ownStep, takeStep}
-use Rattle.rules.proofs.Sound.{sound-ascending}
 use Rattle.state.specs.declared.FederateCoordinationState.{FederateCoordinationState as Held}
 use Rattle.state.specs.declared.Coordination.{Coordination}
 use Rattle.state.specs.Walk.{allOf, placeFrom}
@@ -28,11 +27,17 @@ use Rattle.state.proofs.Put.{Beyond, Past, plain, past-trans, past-set, past-cl
 use Rattle.calls.specs.Called.{lent, refusalOf, replied}
 use Rattle.calls.specs.declared.Called.{Called}
 use Rattle.calls.proofs.Refusals.{refusal-3, refusal-4, refusal-0}
+use Rattle.calls.proofs.Standing.{Standing}
+use Rattle.calls.proofs.Ends.{Ends, roomy, ends-refused, ends-taken, ends-quiet, ends-still}
 use Rattle.observation.specs.declared.Moved.{Moved}
 use Rattle.observation.specs.Moves.{Moves, sayings}
-use Rattle.observation.proofs.Ends.{Ends, Enters, ends-refused, ends-quiet, ends-saying}
 use Rattle.observation.proofs.Observing.{withObservations, storedAt, clearedOf, all-is, already-is, stored-view, stored-neat, cleared-view, cleared-neat}
 use Rattle.observation.proofs.Observing.{judgedBy, wrong-is, observation-is}
+
+-- a state and a room that pass 27 and 8
+pub record Enters (s : Held) (room : List ℕ) : Type 0 where
+  pub stands : Standing s
+  pub large : 56 * (s .count + 2) ≤ length room
 
 -- ---- what a taken call changes
 
@@ -50,13 +55,14 @@ beyond-cells s c o p = let b = beyond-refl s in record {
 }
 
 -- the coordination, in a state t whose cells are stored already
-module _ {c : Call} {s : Held} {room : List ℕ} (n : Enters c s room) (a : facts c .answer (view s) ≡ Silent) (free : 0 ≡ refusalOf (lent (length room) c) s)
+module _ {c : Call} {s : Held} {room : List ℕ} (n : Enters s room) (a : facts c .answer (view s) ≡ Silent) (free : 0 ≡ refusalOf (lent (length room) c) s)
     (t : Held) (h : T (represents t)) (rule : State → Step) (step : takeStep c (view s) ≡ rule (view t)) (d : Moved) (m : Moves rule t d)
     (b : Beyond s (withCoordination (d .coordination) t)) where
-  moved-ends : {k : ℕ} {r : Called} {after : List ℕ} → k ≡ length (sayings (d .said)) → r ≡ replied (withCoordination (d .coordination) t) Taken Silent k
-      → after ≡ putAt room 0 (recordsOf (sayings (d .said))) → Ends (lent (length room) c) s r room after
+  moved-ends : {k : ℕ} {r : Called} {after : List ℕ} → k ≡ length (sayings (d .said)) → after ≡ putAt room 0 (recordsOf (sayings (d .said)))
+      → r ≡ replied (withCoordination (d .coordination) t) Taken Silent k → Ends (lent (length room) c) s r room after
   moved-ends =
-      ends-saying n a free (withCoordination (d .coordination) t) b (neat-with-coordination t h (d .coordination) (m .neat)) (sayings (d .said)) (step ∙ m .step)
+      ends-taken (lent (length room) c) s room a (n .stands) free (withCoordination (d .coordination) t) (sayings (d .said)) b
+      (neat-with-coordination t h (d .coordination) (m .neat)) (step ∙ m .step)
 
 -- ---- stop and idle confirmation: no message, and refused 27 or 8 alone
 
@@ -68,13 +74,13 @@ pub take-idle : (r : ℕ) (m : State) → takeStep (idle r) m ≡ idleConfirmati
 unfolding takeStep ownStep
 take-idle r m = refl
 
-module _ {c : Call} {s : Held} {room : List ℕ} (n : Enters c s room) (p : facts c ≡ bare false true [] []) (rule : State → Step)
+module _ {c : Call} {s : Held} {room : List ℕ} (n : Enters s room) (p : facts c ≡ bare false true [] []) (rule : State → Step)
     (step : takeStep c (view s) ≡ rule (view s)) (d : Moved) (m : T (represents s) → Moves rule s d) where
-  pub bare-ends : {k : ℕ} {r : Called} {after : List ℕ} → k ≡ length (sayings (d .said)) → r ≡ replied (withCoordination (d .coordination) s) Taken Silent k
-      → after ≡ putAt room 0 (recordsOf (sayings (d .said))) → Ends (lent (length room) c) s r room after
+  pub bare-ends : {k : ℕ} {r : Called} {after : List ℕ} → k ≡ length (sayings (d .said)) → after ≡ putAt room 0 (recordsOf (sayings (d .said)))
+      → r ≡ replied (withCoordination (d .coordination) s) Taken Silent k → Ends (lent (length room) c) s r room after
   bare-ends =
-      moved-ends n (rw p refl) (refusal-0 (lent (length room) c) s (n .passes) (n .roomy) (rw p refl) (rw p refl) (rw p refl) (rw p refl)) s (n .good .neat) rule step d
-      (m (n .good .neat)) (beyond-cells s (d .coordination) (s .observation) (beyond-refl s .observation))
+      moved-ends n (rw p refl) (refusal-0 (lent (length room) c) s (n .stands .passing) (roomy c s (length room) (n .large)) (rw p refl) (rw p refl) (rw p refl) (rw p refl)) s (n .stands .good .neat) rule step d
+      (m (n .stands .good .neat)) (beyond-cells s (d .coordination) (s .observation) (beyond-refl s .observation))
 
 -- ---- an observation
 
@@ -82,44 +88,44 @@ take-observe : (e r : ℕ) (o : Observation) (m : State) → takeStep (observe e
 unfolding takeStep ownStep
 take-observe e r o m = refl
 
-pub observe-3 : {e r : ℕ} {o : Observation} {s : Held} {room : List ℕ} → Enters (observe e r o) s room → {i : ℕ}
+pub observe-3 : {e r : ℕ} {o : Observation} {s : Held} {room : List ℕ} → Enters s room → {i : ℕ}
     → i ≡ placeFrom (λ j. eqb (getD (s .enclaves) j 0) e) 0 (s .count) → s .count ≤ i → {x : Called} → x ≡ replied s UnknownEnclave Silent 0
     → Ends (lent (length room) (observe e r o)) s x room room
 observe-3 {e} {r} {o} {s} {room} n {i} p l q =
-    ends-refused (lent (length room) (observe e r o)) s UnknownEnclave room refl q
-    (refusal-3 (lent (length room) (observe e r o)) s (n .passes) (n .roomy) refl (rw (unknown-knows s e i p l) refl)) (omega arith)
+    ends-refused (lent (length room) (observe e r o)) s room refl UnknownEnclave
+    (refusal-3 (lent (length room) (observe e r o)) s (n .stands .passing) (roomy (observe e r o) s (length room) (n .large)) refl (rw (unknown-knows s e i p l) refl)) (omega arith) q
 
 -- by the participant at place i, in a state and a room that pass 27 and 8
 pub record Sits (e r : ℕ) (o : Observation) (s : Held) (room : List ℕ) (i : ℕ) : Type 0 where
-  pub enters : Enters (observe e r o) s room
+  pub enters : Enters s room
   pub place : i ≡ placeFrom (λ j. eqb (getD (s .enclaves) j 0) e) 0 (s .count)
   pub within : i < s .count
 
 module _ {e r : ℕ} {o : Observation} {s : Held} {room : List ℕ} {i : ℕ} (n : Sits e r o s room i) where
   seat : Seated s e i
-  seat = seated s e i (sound-ascending (view s) (n .enters .good .sound)) (n .place) (n .within)
+  seat = seated s e i (n .enters .stands .ascends) (n .place) (n .within)
 
   neat : T (represents s)
-  neat = n .enters .good .neat
+  neat = n .enters .stands .good .neat
 
   module _ {v : Verdict} (q : v ≡ judgedBy r o s) where
     pub observe-4 : v ≡ Refused → {x : Called} → x ≡ replied s InvalidObservationTransition Silent 0 → Ends (lent (length room) (observe e r o)) s x room room
     observe-4 t f =
-        ends-refused (lent (length room) (observe e r o)) s InvalidObservationTransition room refl f
-        (refusal-4 (lent (length room) (observe e r o)) s (n .enters .passes) (n .enters .roomy) refl (rw (known s e i seat) refl)
-        (wrong-is s neat r o v q e ∙ ap isRefused t)) (omega arith)
+        ends-refused (lent (length room) (observe e r o)) s room refl InvalidObservationTransition
+        (refusal-4 (lent (length room) (observe e r o)) s (n .enters .stands .passing) (roomy (observe e r o) s (length room) (n .enters .large)) refl
+        (rw (known s e i seat) refl) (wrong-is s neat r o v q e ∙ ap isRefused t)) (omega arith) f
 
     free : isRefused v ≡ false → 0 ≡ refusalOf (lent (length room) (observe e r o)) s
     free t =
-        refusal-0 (lent (length room) (observe e r o)) s (n .enters .passes) (n .enters .roomy) refl (rw (known s e i seat) refl)
-        (wrong-is s neat r o v q e ∙ t) refl
+        refusal-0 (lent (length room) (observe e r o)) s (n .enters .stands .passing) (roomy (observe e r o) s (length room) (n .enters .large)) refl
+        (rw (known s e i seat) refl) (wrong-is s neat r o v q e ∙ t) refl
 
     step-by : (w : Verdict) → v ≡ w → takeStep (observe e r o) (view s) ≡ observeBy w e o (view s)
     step-by w t = take-observe e r o (view s) ∙ observation-is s neat r o v q e ∙ ap (λ x. observeBy x e o (view s)) t
 
     pub observe-ignored : v ≡ Ignored → {x : Called} → x ≡ replied s Taken Silent 0 → Ends (lent (length room) (observe e r o)) s x room room
     unfolding observeBy
-    observe-ignored t f = ends-quiet (n .enters) refl (free (ap isRefused t)) s (beyond-refl s) neat (step-by Ignored t) f
+    observe-ignored t f = ends-still (lent (length room) (observe e r o)) s room refl (n .enters .stands) (free (ap isRefused t)) (step-by Ignored t) f
 
 -- one that counts, with its cell k
 pub record Counted (e r : ℕ) (o : Observation) (s : Held) (room : List ℕ) (i k : ℕ) : Type 0 where
@@ -140,7 +146,7 @@ module _ {e r : ℕ} {o : Observation} {s : Held} {room : List ℕ} {i k : ℕ} 
   pub observe-repeat : getD (s .observation) i 0 ≡ k → {x : Called} → x ≡ replied s Taken Silent 0 → Ends (lent (length room) (observe e r o)) s x room room
   unfolding observeBy
   observe-repeat y f =
-      ends-quiet (n .sits .enters) refl free-counted s (beyond-refl s) (neat (n .sits)) (step-counted ∙ rw (already ∙ eq-eqb _ _ y) refl) f
+      ends-still (lent (length room) (observe e r o)) s room refl (n .sits .enters .stands) free-counted (step-counted ∙ rw (already ∙ eq-eqb _ _ y) refl) f
 
   -- no repeat: the cell is stored, and b is whether all have this one then
   module _ (y : getD (s .observation) i 0 ≡ k → ⊥) {b : Bool} (w : b ≡ allOf (λ j. eqb (getD (set (s .observation) i k) j 0) k) 0 (s .count)) where
@@ -148,13 +154,13 @@ module _ {e r : ℕ} {o : Observation} {s : Held} {room : List ℕ} {i k : ℕ} 
     past-stored = past-set 0 (s .count) i (n .sits .within) (s .observation) k
 
     neat-stored : T (represents (storedAt s i k))
-    neat-stored = stored-neat s (n .sits .enters .good .sized) (neat (n .sits)) (n .sits .enters .few) e i (seat (n .sits)) o k (n .cell)
+    neat-stored = stored-neat s (n .sits .enters .stands .good .sized) (neat (n .sits)) (n .sits .enters .stands .few) e i (seat (n .sits)) o k (n .cell)
 
     step-stored : takeStep (observe e r o) (view s) ≡ tally o (view (storedAt s i k))
     unfolding observeBy
     step-stored =
-        let z = n .sits .enters .good .sized in
-        step-counted ∙ rw (already ∙ ne-eqb _ _ y) (ap (tally o) (stored-view s z (neat (n .sits)) (n .sits .enters .few) e i (seat (n .sits)) o k (n .cell)))
+        let z = n .sits .enters .stands .good .sized in
+        step-counted ∙ rw (already ∙ ne-eqb _ _ y) (ap (tally o) (stored-view s z (neat (n .sits)) (n .sits .enters .stands .few) e i (seat (n .sits)) o k (n .cell)))
 
     all-stored : allObserved o (view (storedAt s i k)) ≡ b
     all-stored = all-is (storedAt s i k) neat-stored o k (n .cell) ∙ sym w
@@ -162,7 +168,8 @@ module _ {e r : ℕ} {o : Observation} {s : Held} {room : List ℕ} {i k : ℕ} 
     pub observe-stored : b ≡ false → {x : Called} → x ≡ replied (storedAt s i k) Taken Silent 0 → Ends (lent (length room) (observe e r o)) s x room room
     unfolding tally
     observe-stored u f =
-        ends-quiet (n .sits .enters) refl free-counted (storedAt s i k) (beyond-cells s (s .coordination) (set (s .observation) i k) past-stored) neat-stored
+        ends-quiet (lent (length room) (observe e r o)) s room refl (n .sits .enters .stands) free-counted (storedAt s i k)
+        (beyond-cells s (s .coordination) (set (s .observation) i k) past-stored) neat-stored
         (step-stored ∙ rw (all-stored ∙ u) refl) f
 
     module _ (u : b ≡ true) (d : Moved) (m : T (represents (clearedOf (storedAt s i k))) → Moves (agreed o) (clearedOf (storedAt s i k)) d) where
@@ -176,12 +183,12 @@ module _ {e r : ℕ} {o : Observation} {s : Held} {room : List ℕ} {i k : ℕ} 
       past-agreed : Past plain 0 (s .count) (s .observation) (cleared (s .count) (set (s .observation) i k))
       past-agreed =
           let c = set (s .observation) i k in
-          let few = n .sits .enters .few in
+          let few = n .sits .enters .stands .few in
           past-trans plain 0 (s .count) (s .count) (s .observation) c (cleared (s .count) c) refl past-stored
-          (past-cleared (s .count) c (rw (length-set (s .observation) i k, n .sits .enters .good .sized .observation) few))
+          (past-cleared (s .count) c (rw (length-set (s .observation) i k, n .sits .enters .stands .good .sized .observation) few))
 
-      pub observe-agreed : {q : ℕ} {x : Called} {after : List ℕ} → q ≡ length (sayings (d .said))
-          → x ≡ replied (withCoordination (d .coordination) (clearedOf (storedAt s i k))) Taken Silent q → after ≡ putAt room 0 (recordsOf (sayings (d .said)))
+      pub observe-agreed : {q : ℕ} {x : Called} {after : List ℕ} → q ≡ length (sayings (d .said)) → after ≡ putAt room 0 (recordsOf (sayings (d .said)))
+          → x ≡ replied (withCoordination (d .coordination) (clearedOf (storedAt s i k))) Taken Silent q
           → Ends (lent (length room) (observe e r o)) s x room after
       observe-agreed =
           moved-ends (n .sits .enters) refl free-counted (clearedOf (storedAt s i k)) neat-cleared (agreed o) step-agreed d (m neat-cleared)

@@ -20,7 +20,7 @@ use Rattle.state.specs.View.{view}
 use Rattle.state.specs.Parts.{Seated, partsOf}
 use Rattle.state.specs.Decides.{Decides, Good, conclusion, halfway, neatParts}
 use Rattle.publication.specs.Revise.{revisedOf, unprobedOf}
-use Rattle.publication.proofs.Halves.{Goes, decides-by, rows-forgotten, rows-only, saying, stopped-is}
+use Rattle.state.proofs.Halves.{Goes, decides-by, rows-forgotten, rows-only, saying, stopped-is}
 use Rattle.publication.proofs.Neat.{neat-revised, neat-unprobed, parts-of, parts-whole}
 
 -- the enclave unpublished, and these small parts
@@ -51,7 +51,7 @@ module _ (e : ℕ) (s : Held) (i : ℕ) (g : Good s) (d : Seated s e i) where
   stopped-step : s .coordination .phase ≡ 6 → Goes (activateOf e) e stopping s i
   unfolding activateOf conclusion
   stopped-step h =
-      rw (stopped-is s g ∙ ap (λ n. eqb n 6) h)
+      rw (stopped-is s (g .neat) ∙ ap (λ n. eqb n 6) h)
       (ap (λ (ps : List Participant). emit [] (withParticipants ps (view (halfway s i (stopping (partsOf s i))))))
       (sym (rows-only s e i (stopping (partsOf s i) .parts) g d unpublish refl)))
 
@@ -59,7 +59,7 @@ module _ (e : ℕ) (s : Held) (i : ℕ) (g : Good s) (d : Seated s e i) where
   unfolding activateOf reviseOf conclusion
   running-step h =
       let t = halfway s i (resuming (partsOf s i)) in
-      rw (stopped-is s g ∙ ne-eqb (s .coordination .phase) 6 h)
+      rw (stopped-is s (g .neat) ∙ ne-eqb (s .coordination .phase) 6 h)
       (ap (λ (ps : List Participant). emit (Resume e (t .coordination .revision) ∷ []) (withParticipants ps (view t)))
       (sym (rows-forgotten s e i (resuming (partsOf s i) .parts) g d unpublish refl)))
 

@@ -3,47 +3,29 @@
 use mathlib.Core.Path.{_≡_, refl, sym, ap, _∙_}
 use mathlib.Core.Bool.{Bool, true, false, not, cond}
 use mathlib.Core.List.{List, [], _∷_}
-use Prim.Native.Nat.{ℕ, _≤_}
-use native.Mathlib.Omega.{arith}
+use Prim.Native.Nat.{ℕ}
 use lib.Dec.{T, eqb}
 use lib.IntN.{ℤ}
 use lib.ListN.{getD}
 use borrow.Author.Tests.{not-false, not-true}
 use Rattle.records.specs.Numbers.{phaseNumber}
-use Rattle.rules.specs.Model.{Active, At, AwaitingIdleConfirmation, CoordinatedTermination, CoordinationPhase, KeepAlive, LifecyclePolicy, NoTag, OptionalTag, Parked, Parking, Probe, Probing, Rechecking, Stopped, Tag, TerminateWhenIdle}
+use Rattle.rules.specs.Model.{At, CoordinatedTermination, KeepAlive, LifecyclePolicy, NoTag, OptionalTag, Probe, Tag, TerminateWhenIdle}
 use Rattle.rules.specs.Publication.{announce, idlePhase, idleProbe, leastCandidate}
 use Rattle.rules.proofs.Invariants.{and-intro}
 use Rattle.state.specs.declared.FederateCoordinationState.{FederateCoordinationState as Held}
 use Rattle.state.specs.declared.Coordination.{Coordination}
 use Rattle.state.specs.declared.Gate.{Gate}
 use Rattle.state.specs.Walk.{allOf, leastFrom}
-use Rattle.state.specs.Cells.{absent, cellOf, isNeat, optionalOf, phaseOf, policyOf, tagIn}
+use Rattle.state.specs.Cells.{absent, cellOf, isNeat, optionalOf, policyOf, tagIn}
 use Rattle.state.specs.View.{view, represents}
 use Rattle.state.specs.Parts.{withCoordination, withGate}
+use Rattle.state.proofs.Round.{number-phase, phase-below}
 use Rattle.state.proofs.Kept.{least-kept, kept-neat}
 use Rattle.state.proofs.Rows.{all-rows, least-rows, neat-cell}
 use Rattle.state.proofs.Neat.{coordination-parts, coordination-whole, gate-parts, gate-whole, neat-coordination, neat-gate, neat-horizon}
 use Rattle.publication.specs.Announce.{Announces, Has, announcement}
 
 -- ---- the phase by its number
-
-phase-back : (p : CoordinationPhase) → phaseOf (phaseNumber p) ≡ p
-phase-back Active = refl
-phase-back Probing = refl
-phase-back Parking = refl
-phase-back Rechecking = refl
-phase-back Parked = refl
-phase-back AwaitingIdleConfirmation = refl
-phase-back Stopped = refl
-
-phase-number-bound : (p : CoordinationPhase) → phaseNumber p ≤ 6
-phase-number-bound Active = omega arith
-phase-number-bound Probing = omega arith
-phase-number-bound Parking = omega arith
-phase-number-bound Rechecking = omega arith
-phase-number-bound Parked = omega arith
-phase-number-bound AwaitingIdleConfirmation = omega arith
-phase-number-bound Stopped = omega arith
 
 probes : (m : OptionalTag) (l : LifecyclePolicy) (r : ℕ) → cond (eqb (phaseNumber (idlePhase m l)) 1) (Probe r ∷ []) [] ≡ idleProbe m l r
 probes NoTag KeepAlive r = refl
@@ -76,7 +58,7 @@ module _ (s : Held) (whole : T (represents s)) where
   announced-step : (e : ℕ) (resume : Bool) (t : Tag) → optionalOf t ≡ leastCandidate (view s)
       → let c = announced (s .coordination) t (s .«grant_horizon») (s .lifecycle) in announce e resume (view s) ≡ record { state = view (withGate (droppedOf (s .gate)) (withCoordination c s)); actions = announcement e resume c }
   unfolding announce
-  announced-step e resume t h = rw (← h, phase-back, probes) refl
+  announced-step e resume t h = rw (← h, number-phase, probes) refl
 
   announces-none : (x : Bool) → x ≡ allOf (λ j. getD (s .published) j false) 0 (s .count) → x ≡ false
       → Announces s (record { announces = false; coordination = s .coordination; gate = s .gate })
@@ -94,7 +76,7 @@ module _ (s : Held) (whole : T (represents s)) where
     step = λ e resume. rw (all-rows s (λ p. p .published) ∙ sym asked ∙ h) (announced-step e resume t held);
     granted = refl;
     neat = coordination-whole (announced (s .coordination) t (s .«grant_horizon») (s .lifecycle)) (record {
-      phase = phase-number-bound (idlePhase (optionalOf t) (policyOf (s .lifecycle)));
+      phase = phase-below (idlePhase (optionalOf t) (policyOf (s .lifecycle)));
       authorization = coordination-parts (s .coordination) (neat-coordination s whole) .authorization;
       publication = and-intro (isNeat t) (isNeat (s .«grant_horizon»)) (rw least (kept-neat cells keeps)) (neat-horizon s whole);
     });

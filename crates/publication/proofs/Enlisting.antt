@@ -27,7 +27,7 @@ use Rattle.state.specs.Decides.{Decides, Good, conclusion, halfway, neatParts, 
 use Rattle.state.proofs.Rows.{found, neat-cell, optional-cell, proper-present}
 use Rattle.state.proofs.Neat.{neat-place, place-parts}
 use Rattle.publication.specs.Revise.{revisedOf, unprobedOf}
-use Rattle.publication.proofs.Halves.{Goes, active-is, decides-by, goes-nothing, rows-forgotten, rows-only, saying, stopped-is, view-kept}
+use Rattle.state.proofs.Halves.{Goes, active-is, decides-by, goes-nothing, rows-forgotten, rows-only, saying, stopped-is, view-kept}
 use Rattle.publication.proofs.Neat.{neat-revised, neat-unprobed, parts-of, parts-whole, row-of, row-whole}
 
 -- ---- a candidate unchanged
@@ -122,11 +122,11 @@ enlist-is e m resume v = refl
 module _ (m : OptionalTag) (e : ℕ) (s : Held) (i : ℕ) (g : Good s) (d : Seated s e i) where
   stopped-step : s .coordination .phase ≡ 6 → Goes (publishOf e m) e (saying 0) s i
   unfolding publishOf
-  stopped-step h = goes-nothing (publishOf e m) e s i g d (rw (stopped-is s g ∙ ap (λ n. eqb n 6) h) refl)
+  stopped-step h = goes-nothing (publishOf e m) e s i g d (rw (stopped-is s (g .neat) ∙ ap (λ n. eqb n 6) h) refl)
 
   running-step : Runs (partsOf s i) → publishOf e m (view s) ≡ publishBy e m (view s) (some (rowAt s i))
   unfolding publishOf
-  running-step h = rw (stopped-is s g ∙ ne-eqb (s .coordination .phase) 6 h, found s e i d) refl
+  running-step h = rw (stopped-is s (g .neat) ∙ ne-eqb (s .coordination .phase) 6 h, found s e i d) refl
 
 module _ (m : OptionalTag) (e : ℕ) (s : Held) (i : ℕ) (g : Good s) (d : Seated s e i) (proper : T (properIfPresent m)) (runs : Runs (partsOf s i)) where
   asked-same : sameOptional (optionalOf (tagAt s i)) m ≡ alike m (partsOf s i)
@@ -155,7 +155,7 @@ module _ (m : OptionalTag) (e : ℕ) (s : Held) (i : ℕ) (g : Good s) (d : Seat
       let resumes = not (eqb (s .coordination .phase) 0) in
       let rows = rows-forgotten s e i (changed m (partsOf s i) .parts) g d (store m) (stored-row m proper (rowAt s i)) ∙ sym (store-forget e m (rowsOf s)) in
       running-step m e s i g d runs ∙
-      rw (asked-same ∙ differs, active-is s g)
+      rw (asked-same ∙ differs, active-is s (g .neat))
       (enlist-is e m resumes (reviseOf (view s)) ∙ ap (λ (ps : List Participant). conclusion e (Announces resumes) (withParticipants ps (view t))) (sym rows))
 
 -- ---- each return, of the parts

@@ -1,4 +1,3 @@
-pub mod Halves
 pub mod Neat
 pub mod Activation
 pub mod Enlisting

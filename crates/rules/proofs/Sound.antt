@@ -245,7 +245,7 @@ both-proper NoTag n h k = tt
 both-proper (At a) NoTag h k = tt
 both-proper (At a) (At b) h k = one-of (a ≤ₜ b) a b h k
 
-capped-proper : (m : OptionalTag) (t : Tag) → Proper m → T (isProper t) → T (isProper (cappedBy m t))
+pub capped-proper : (m : OptionalTag) (t : Tag) → T (properIfPresent m) → T (isProper t) → T (isProper (cappedBy m t))
 capped-proper NoTag t h k = k
 capped-proper (At c) t h k = one-of (t ≤ₜ c) t c k h
 

@@ -4,3 +4,5 @@ pub mod Kept
 pub mod Columns
 pub mod Round
 pub mod Put
+pub mod Seats
+pub mod Halves

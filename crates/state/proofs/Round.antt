@@ -33,7 +33,7 @@ number-policy KeepAlive = refl
 number-policy TerminateWhenIdle = refl
 number-policy CoordinatedTermination = refl
 
-phase-number : (n : ℕ) → n ≤ 6 → phaseNumber (phaseOf n) ≡ n
+pub phase-number : (n : ℕ) → n ≤ 6 → phaseNumber (phaseOf n) ≡ n
 phase-number zero h = refl
 phase-number (suc zero) h = refl
 phase-number (suc (suc zero)) h = refl
@@ -251,7 +251,7 @@ policy-below KeepAlive = omega arith
 policy-below TerminateWhenIdle = omega arith
 policy-below CoordinatedTermination = omega arith
 
-phase-below : (p : CoordinationPhase) → phaseNumber p ≤ 6
+pub phase-below : (p : CoordinationPhase) → phaseNumber p ≤ 6
 phase-below Active = omega arith
 phase-below Probing = omega arith
 phase-below Parking = omega arith

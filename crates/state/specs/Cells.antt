@@ -1,8 +1,8 @@
 -- What the cells of the state mean: a tag, a number or an observation that may be absent, a phase and a policy by number. A cell that means nothing
 -- of document 01 is in no state that represents one (View, `represents`). Assumes nothing.
-use mathlib.Core.Bool.{Bool, true, false, not, cond, _&&_, _||_}
+use mathlib.Core.Bool.{Bool, not, cond, _||_}
 use Prim.Native.Nat.{ℕ, _-_, _^_}
-use lib.Dec.{eqb, leb}
+use lib.Dec.{eqb}
 use mathlib.Core.List.{List}
 use lib.IntN.{ℤ, pos, negsuc}
 use lib.ListN.{getD}

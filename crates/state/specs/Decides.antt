@@ -1,7 +1,7 @@
 -- How a scheduler message's own rule is taken in two halves: first the parts of its enclave and the small parts are stored, then what depends on
 -- the whole table is concluded. What the functions that decide the first half promise. Assumes nothing.
 use mathlib.Core.Path.{_≡_}
-use mathlib.Core.Bool.{Bool, true, cond, _&&_}
+use mathlib.Core.Bool.{Bool, cond, _&&_}
 use mathlib.Core.List.{List, [], _∷_}
 use Prim.Native.Nat.{ℕ}
 use lib.Dec.{T, eqb}

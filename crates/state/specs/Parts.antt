@@ -1,19 +1,19 @@
 -- The parts of a state that a scheduler message's own rule can change, read out of it and put back. Assumes nothing.
 use mathlib.Core.Path.{_≡_}
-use mathlib.Core.Bool.{Bool, true, false}
+use mathlib.Core.Bool.{true, false}
 use mathlib.Core.List.{List, _++_}
-use Prim.Native.Nat.{ℕ, _+_, _<_, _≤_}
+use Prim.Native.Nat.{ℕ, _+_, _<_}
 use lib.Dec.{eqb}
 use lib.ListN.{length, getD, set, replicate, drop}
-use Rattle.rules.specs.Model.{Participant, State}
+use Rattle.rules.specs.Model.{Participant}
 use Rattle.state.specs.declared.FederateCoordinationState.{FederateCoordinationState as Held}
 use Rattle.state.specs.declared.Coordination.{Coordination}
 use Rattle.state.specs.declared.Completion.{Completion}
 use Rattle.state.specs.declared.Gate.{Gate}
 use Rattle.state.specs.declared.Row.{Row}
 use Rattle.state.specs.declared.Parts.{Parts}
-use Rattle.state.specs.Cells.{optionalOf, numberIf, tagIn}
-use Rattle.state.specs.View.{tagAt, view}
+use Rattle.state.specs.Cells.{optionalOf, numberIf}
+use Rattle.state.specs.View.{tagAt}
 
 -- the columns are of their lengths, as those of every state that a program holds are
 pub record Sized (s : Held) : Type 0 where

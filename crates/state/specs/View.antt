@@ -1,6 +1,6 @@
 -- The state as the code holds it and as the rules speak of it. `view` reads it, `put` writes it over another, and `represents` says which
 -- values hold a state of document 01: no hidden cell, so that each has one representation. The one file that names the fields of both. Assumes nothing.
-use mathlib.Core.Bool.{Bool, true, false, not, cond, _&&_, _||_}
+use mathlib.Core.Bool.{Bool, true, false, not, cond, _&&_}
 use mathlib.Core.List.{List, [], _∷_, _++_, map}
 use Prim.Native.Nat.{ℕ, _+_}
 use lib.Dec.{eqb, leb}

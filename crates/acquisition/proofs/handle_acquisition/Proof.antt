@@ -1,9 +1,8 @@
 -- `acquisition::handle_acquisition` keeps the promise of the call `acquire`: it refuses by 27, 8 and 7 in this order, and else answers what `acquire`
 -- decided, with the records of AdvanceHorizon and the Grants where it grants. Assumes nothing.
-use mathlib.Core.Path.{_≡_, refl, sym, ap, _∙_, subst}
-use mathlib.Core.Bool.{Bool, true, false, not, _&&_}
+use mathlib.Core.Path.{_≡_, refl, sym, ap, _∙_}
+use mathlib.Core.Bool.{true, _&&_}
 use native.Mathlib.Omega.{arith}
-use lib.Dec.{T}
 use lib.ListN.{length}
 use borrow.Author.Tests.{not-true, not-false}
 use borrow.Author.Needs.{needs}
@@ -13,7 +12,8 @@ use Rattle.state.specs.View.{view, represents}
 use Rattle.state.specs.Parts.{Sized}
 use Rattle.calls.specs.Called.{lent, refusalOf}
 use Rattle.acquisition.specs.Acquire.{Acquires}
-use Rattle.acquisition.proofs.Promise.{sized-by, Standing, standing, whole, refuses-27, refuses-8, refuses-7}
+use Rattle.calls.proofs.Standing.{sized-by, whole, Standing, standing, is-so}
+use Rattle.calls.proofs.Ends.{ends-27, ends-8, ends-7}
 use Rattle.acquisition.proofs.Acquiring.{acquire-taken, stays-promised, moves-promised}
 use Rattle.acquisition.proofs.handle_acquisition.Statement.{statement}
 use Rattle.acquisition.proofs.handle_acquisition.Tie as tie
@@ -36,7 +36,7 @@ tested : (c : tie.After-is-sound) → let s = begun c .args .t1 in c .is-sound .
 tested c = let s = begun c .args .t1 in c .is-sound .ensures s (whole s)
 
 stands : (c : tie.Else1) → Standing (begun (c .before) .args .t1)
-stands c = standing (begun (c .before) .args .t1) (sized (begun (c .before))) (c .before .is-sound .result) (tested (c .before)) (c .if1 .left)
+stands c = standing (begun (c .before) .args .t1) (sized (begun (c .before))) (tested (c .before)) (c .if1 .left)
 
 passed : (c : tie.Else3) → let e = begun (c .before .before .before .before) in 0 ≡ refusalOf (given e) (e .args .t1)
 passed c =
@@ -50,10 +50,7 @@ decided c =
     let p = c .before .before in
     let e = begun (p .before .before .before) in
     c .acquire .ensures (e .args .t1) (stands (p .before .before) .good)
-    (subst T (p .is-proper .ensures) (is-so (p .is-proper .result) (c .before .if3 .left))) refl refl refl
-  where
-    is-so : (b : Bool) → not b ≡ false → T b
-    is-so b h = subst T (sym (not-false b h)) tt
+    (is-so (sym (p .is-proper .ensures) ∙ not-false (p .is-proper .result) (c .before .if3 .left))) refl refl refl
 
 -- ---- 27
 
@@ -67,7 +64,7 @@ returns : tie.Need-returns
 returns c =
     let d = c .before .before in
     let e = begun d in
-    refuses-27 (given e) (e .args .t1) refl (e .args .room .now) _ (d .is-sound .result) (tested d) (c .before .if1 .taken) (c .with-reply .ensures)
+    ends-27 (given e) (e .args .t1) (e .args .room .now) refl (tested d) (c .before .if1 .taken) (c .with-reply .ensures)
 
 -- ---- 8
 
@@ -84,7 +81,7 @@ returns-2 : tie.Need-returns-2
 returns-2 c =
     let d = c .before .before in
     let e = begun (d .before) in
-    refuses-8 (given e) (e .args .t1) refl (e .args .room .now) _ (stands d) refl (c .before .if2 .taken) (c .with-reply2 .ensures)
+    ends-8 (given e) (e .args .t1) (e .args .room .now) refl (stands d .passing) refl (c .before .if2 .taken) (c .with-reply2 .ensures)
 
 -- ---- 7
 
@@ -99,7 +96,7 @@ returns-3 c =
     let p = c .before .before in
     let d = p .before .before in
     let e = begun (d .before) in
-    refuses-7 (given e) (e .args .t1) refl (e .args .room .now) _ (stands d) (p .before .if2 .left)
+    ends-7 (given e) (e .args .t1) (e .args .room .now) refl (stands d .passing) (p .before .if2 .left)
     (ap (λ b. b && true) (sym (p .is-proper .ensures) ∙ not-true (p .is-proper .result) (c .before .if3 .taken))) (c .with-reply3 .ensures)
 
 -- ---- taken: nothing more, or grants

@@ -12,7 +12,8 @@ use Rattle.rules.specs.Calls.{isSound}
 use Rattle.state.specs.View.{view, represents}
 use Rattle.state.specs.Parts.{Sized}
 use Rattle.calls.specs.Called.{lent, refusalOf}
-use Rattle.acquisition.proofs.Promise.{sized-by, Standing, standing, whole, refuses-27, refuses-8, refuses-7, takes-quietly, takes-as}
+use Rattle.calls.proofs.Standing.{sized-by, whole, Standing, standing}
+use Rattle.calls.proofs.Ends.{ends-27, ends-8, ends-7, ends-still, ends-as}
 use Rattle.acquisition.proofs.Acquiring.{acquire-taken}
 use Rattle.acquisition.proofs.Repeats.{listed, sent-taken, sent-nothing, sent-due, horizon-proper}
 use Rattle.acquisition.proofs.handle_publication_sent.Statement.{statement}
@@ -36,7 +37,7 @@ tested : (c : tie.After-is-sound) → let s = begun c .args .t1 in c .is-sound .
 tested c = let s = begun c .args .t1 in c .is-sound .ensures s (whole s)
 
 stands : (c : tie.Else1) → Standing (begun (c .before) .args .t1)
-stands c = standing (begun (c .before) .args .t1) (sized (begun (c .before))) (c .before .is-sound .result) (tested (c .before)) (c .if1 .left)
+stands c = standing (begun (c .before) .args .t1) (sized (begun (c .before))) (tested (c .before)) (c .if1 .left)
 
 passed : (c : tie.Else3) → let e = begun (c .before .before .before .before) in 0 ≡ refusalOf (given e) (e .args .t1)
 passed c =
@@ -57,7 +58,7 @@ returns : tie.Need-returns
 returns c =
     let d = c .before .before in
     let e = begun d in
-    refuses-27 (given e) (e .args .t1) refl (e .args .room .now) _ (d .is-sound .result) (tested d) (c .before .if1 .taken) (c .with-reply .ensures)
+    ends-27 (given e) (e .args .t1) (e .args .room .now) refl (tested d) (c .before .if1 .taken) (c .with-reply .ensures)
 
 -- ---- 8
 
@@ -74,7 +75,7 @@ returns-2 : tie.Need-returns-2
 returns-2 c =
     let d = c .before .before in
     let e = begun (d .before) in
-    refuses-8 (given e) (e .args .t1) refl (e .args .room .now) _ (stands d) refl (c .before .if2 .taken) (c .with-reply2 .ensures)
+    ends-8 (given e) (e .args .t1) (e .args .room .now) refl (stands d .passing) refl (c .before .if2 .taken) (c .with-reply2 .ensures)
 
 -- ---- 7
 
@@ -89,7 +90,7 @@ returns-3 c =
     let p = c .before .before in
     let d = p .before .before in
     let e = begun (d .before) in
-    refuses-7 (given e) (e .args .t1) refl (e .args .room .now) _ (stands d) (p .before .if2 .left)
+    ends-7 (given e) (e .args .t1) (e .args .room .now) refl (stands d .passing) (p .before .if2 .left)
     (listed (properIfPresent (e .args .publication .«next_event»)) (properIfPresent (e .args .publication .«grant_horizon»))
     ∙ sym (p .has-proper-tags .ensures) ∙ not-true (p .has-proper-tags .result) (c .before .if3 .taken)) (c .with-reply3 .ensures)
 
@@ -107,8 +108,8 @@ returns-4 c =
     let q = a .before in
     let e = begun (q .before .before .before .before) in
     let p = e .args .publication in
-    takes-quietly (given e) (e .args .t1) refl (stands (q .before .before .before)) (passed q) (e .args .room .now) _ (c .with-reply4 .ensures)
-    (sent-nothing (e .args .t1) (p .revision) (p .«next_event») (p .«grant_horizon») (a .is-due .result) (a .is-due .ensures) (c .before .if4 .taken))
+    ends-still (given e) (e .args .t1) (e .args .room .now) refl (stands (q .before .before .before)) (passed q)
+    (sent-nothing (e .args .t1) (p .revision) (p .«next_event») (p .«grant_horizon») (a .is-due .result) (a .is-due .ensures) (c .before .if4 .taken)) (c .with-reply4 .ensures)
 
 handle-acquisition-requires : tie.Need-handle-acquisition-requires
 handle-acquisition-requires c κs = tt
@@ -127,7 +128,7 @@ returns-5 c =
     let p = e .args .publication in
     let st = stands (q .before .before .before) in
     let due = d .before .before .if4 .left in
-    takes-as (lent n (acquire (p .revision) (s .«grant_horizon»))) (given e) s (e .args .room .now) _ _
+    ends-as (lent n (acquire (p .revision) (s .«grant_horizon»))) (given e) s (e .args .room .now) _ _
     (acquire-taken n (p .revision) (s .«grant_horizon») s st (q .before .before .if2 .left)
     (horizon-proper s (p .revision) (p .«next_event») (p .«grant_horizon») (a .is-due .result) (a .is-due .ensures) st due))
     (passed q) refl (sent-due s (p .revision) (p .«next_event») (p .«grant_horizon») (a .is-due .result) (a .is-due .ensures) due) (d .handle-acquisition .ensures)

@@ -6,7 +6,7 @@ use Rattle.acquisition.proofs.holds.Statement.{statement}
 use Rattle.acquisition.proofs.holds.Tie as tie
 
 optional-of-requires : tie.Need-optional-of-requires
-optional-of-requires c κs = search needs
+optional-of-requires c κs = tt
 
 same-optional-requires : tie.Need-same-optional-requires
 same-optional-requires c κs = search needs

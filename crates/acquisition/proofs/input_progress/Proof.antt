@@ -10,7 +10,8 @@ use Rattle.rules.specs.Calls.{isSound}
 use Rattle.state.specs.View.{view, represents}
 use Rattle.state.specs.Parts.{Sized}
 use Rattle.calls.specs.Called.{lent, refusalOf}
-use Rattle.acquisition.proofs.Promise.{sized-by, Standing, standing, whole, refuses-27, refuses-8, takes-quietly, takes-as}
+use Rattle.calls.proofs.Standing.{sized-by, whole, Standing, standing}
+use Rattle.calls.proofs.Ends.{ends-27, ends-8, ends-still, ends-as}
 use Rattle.acquisition.proofs.Acquiring.{acquire-taken}
 use Rattle.acquisition.proofs.Repeats.{progress-taken, progress-none, progress-some, stored-proper}
 use Rattle.acquisition.proofs.input_progress.Statement.{statement}
@@ -34,7 +35,7 @@ tested : (c : tie.After-is-sound) → let s = begun c .args .t1 in c .is-sound .
 tested c = let s = begun c .args .t1 in c .is-sound .ensures s (whole s)
 
 stands : (c : tie.Else1) → Standing (begun (c .before) .args .t1)
-stands c = standing (begun (c .before) .args .t1) (sized (begun (c .before))) (c .before .is-sound .result) (tested (c .before)) (c .if1 .left)
+stands c = standing (begun (c .before) .args .t1) (sized (begun (c .before))) (tested (c .before)) (c .if1 .left)
 
 passed : (c : tie.Else2) → let e = begun (c .before .before) in 0 ≡ refusalOf (given e) (e .args .t1)
 passed c = let e = begun (c .before .before) in progress-taken (e .args .t1) (length (e .args .room .now)) (stands (c .before)) (c .if2 .left)
@@ -51,7 +52,7 @@ returns : tie.Need-returns
 returns c =
     let d = c .before .before in
     let e = begun d in
-    refuses-27 (given e) (e .args .t1) refl (e .args .room .now) _ (d .is-sound .result) (tested d) (c .before .if1 .taken) (c .with-reply .ensures)
+    ends-27 (given e) (e .args .t1) (e .args .room .now) refl (tested d) (c .before .if1 .taken) (c .with-reply .ensures)
 
 -- ---- 8
 
@@ -68,7 +69,7 @@ returns-2 : tie.Need-returns-2
 returns-2 c =
     let d = c .before .before in
     let e = begun (d .before) in
-    refuses-8 (given e) (e .args .t1) refl (e .args .room .now) _ (stands d) refl (c .before .if2 .taken) (c .with-reply2 .ensures)
+    ends-8 (given e) (e .args .t1) (e .args .room .now) refl (stands d .passing) refl (c .before .if2 .taken) (c .with-reply2 .ensures)
 
 -- ---- taken: nothing is stored, or it is repeated
 
@@ -83,8 +84,8 @@ returns-3 c =
     let a = c .before .before in
     let q = a .before .before in
     let e = begun (q .before .before) in
-    takes-quietly (given e) (e .args .t1) refl (stands (q .before)) (passed q) (e .args .room .now) _ (c .with-reply3 .ensures)
-    (progress-none (e .args .t1) (sym (a .is-absent .ensures) ∙ c .before .if3 .taken))
+    ends-still (given e) (e .args .t1) (e .args .room .now) refl (stands (q .before)) (passed q)
+    (progress-none (e .args .t1) (sym (a .is-absent .ensures) ∙ c .before .if3 .taken)) (c .with-reply3 .ensures)
 
 handle-acquisition-requires : tie.Need-handle-acquisition-requires
 handle-acquisition-requires c κs = tt
@@ -101,7 +102,7 @@ returns-4 c =
     let s = e .args .t1 in
     let n = length (e .args .room .now) in
     let present = sym (a .is-absent .ensures) ∙ d .before .before .if3 .left in
-    takes-as (lent n (acquire (s .gate .«stored_revision») (s .gate .«stored_granted»))) (given e) s (e .args .room .now) _ _
+    ends-as (lent n (acquire (s .gate .«stored_revision») (s .gate .«stored_granted»))) (given e) s (e .args .room .now) _ _
     (acquire-taken n (s .gate .«stored_revision») (s .gate .«stored_granted») s (stands (q .before)) (q .if2 .left)
     (stored-proper s (stands (q .before)) present))
     (passed q) refl (progress-some s present) (d .handle-acquisition .ensures)

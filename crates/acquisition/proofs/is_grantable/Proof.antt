@@ -9,7 +9,7 @@ returns : tie.Need-returns
 returns c = rw (not-true (c .before .args .published) (c .if1 .taken)) refl
 
 is-absent-requires : tie.Need-is-absent-requires
-is-absent-requires c κs = search needs
+is-absent-requires c κs = tt
 
 returns-2 : tie.Need-returns-2
 returns-2 c = rw (not-false (c .before .before .before .args .published) (c .before .before .if1 .left), sym (c .before .is-absent .ensures) ∙ c .if2 .taken) refl

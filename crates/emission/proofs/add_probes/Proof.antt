@@ -1,5 +1,5 @@
 -- `emission::add_probes` adds `probesIn`. The invariant: the probes of the first i places have been added, at most one for each. Assumes nothing.
-use mathlib.Core.Path.{_≡_, refl, ap, _∙_}
+use mathlib.Core.Path.{_≡_, refl, _∙_}
 use Prim.Native.Nat.{_≤_, _+_, _-_}
 use native.Mathlib.Nat.{le-antisymm}
 use native.Mathlib.Omega.{arith}

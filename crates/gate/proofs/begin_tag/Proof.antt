@@ -1,14 +1,15 @@
 -- `gate::begin_tag` keeps the promise of the call `begin`: it refuses 27, then 7, and else answers the rule's tests, and stores where they hold.
 -- Assumes nothing.
 use Rattle.rules.specs.Walk.{quiet}
-use mathlib.Core.Path.{_≡_, sym, ap, ap₂, _∙_}
+use mathlib.Core.Path.{_≡_, refl, sym, ap, ap₂, _∙_}
 use mathlib.Core.Bool.{true, false, _&&_}
+use mathlib.Core.List.{[]}
 use native.Mathlib.Omega.{arith}
 use borrow.Author.Tests.{not-true, not-false}
 use Rattle.rules.specs.Calls.{isSound, says}
 use Rattle.state.specs.View.{view, represents}
 use Rattle.state.specs.Parts.{Sized, Seated}
-use Rattle.gate.proofs.Standing.{sized-by, lent-whole, Standing, standing}
+use Rattle.calls.proofs.Standing.{sized-by, whole, Standing, standing, promised-refused, promised-27, promised-taken, promised-still}
 use Prim.Native.Nat.{_<_}
 use Rattle.tags.specs.Tags.{isProper}
 use Rattle.records.specs.declared.Refusal.the-variants.{Taken, ImproperTag}
@@ -17,7 +18,7 @@ use Rattle.rules.specs.Gate.{mayBegin}
 use Rattle.state.specs.Cells.{isAbsent}
 use Rattle.state.proofs.Rows.{seated, unknown-knows}
 use Rattle.calls.specs.Called.{lent, refusalOf, replied}
-use Rattle.gate.proofs.Ends.{asks-begin, asks-7, asks-0, refused-no, ends-27, ends-refused, ends-taken, ends-unchanged}
+use Rattle.gate.proofs.Ends.{asks-begin, asks-7, asks-0, refused-no}
 use Rattle.gate.proofs.Beginning.{may-free, step-free, may-unknown, may-known, step-begun, step-denied, startedAt, started-view, started-neat, started-beyond}
 use borrow.Author.Needs.{needs}
 use Rattle.gate.proofs.begin_tag.Statement.{statement}
@@ -34,10 +35,10 @@ sized e =
     sized-by (e .args .t1) (f .0 .1 .0 .1) (f .1 .0 .1 .0 .1) (f .1 .1 .0 .1 .0 .1) (f .1 .1 .1 .0 .1 .0 .1) (f .1 .1 .1 .1 .0 .1 .0 .1) (f .1 .1 .1 .1 .1 .0 .1 .0 .1) (f .1 .1 .1 .1 .1 .1 .0 .1 .0 .1) (f .1 .1 .1 .1 .1 .1 .1 .0 .1 .0 .1)
 
 tested : (c : tie.After-is-sound) → let s = entered c .args .t1 in c .is-sound .result ≡ (represents s && isSound (view s))
-tested c = c .is-sound .ensures (entered c .args .t1) (lent-whole (entered c .args .t1))
+tested c = c .is-sound .ensures (entered c .args .t1) (whole (entered c .args .t1))
 
 stands : (c : tie.Else1) → Standing (entered (c .before) .args .t1)
-stands c = standing (entered (c .before) .args .t1) (sized (entered (c .before))) (sym (tested (c .before)) ∙ not-false (c .before .is-sound .result) (c .if1 .left))
+stands c = standing (entered (c .before) .args .t1) (sized (entered (c .before))) (tested (c .before)) (c .if1 .left)
 
 proper : (c : tie.Else2) → isProper (entered (c .before .before .before) .args .tag) ≡ true
 proper c = sym (c .before .is-proper .ensures) ∙ not-false (c .before .is-proper .result) (c .if2 .left)
@@ -55,10 +56,10 @@ capped c = sym (c .before .is-absent .ensures) ∙ c .if3 .left
 seat : (c : tie.Else4) → let e = entered (c .before .before .before .before .before .before .before .before .before .before) .args in Seated (e .t1) (e .enclave) (c .before .find .result)
 seat c =
     let e = entered (c .before .before .before .before .before .before .before .before .before .before) .args in
-    seated (e .t1) (e .enclave) (c .before .find .result) (stands (c .before .before .before .before .before .before .before .before .before) .bounds .ascends) (c .before .find .ensures) (c .if4 .left)
+    seated (e .t1) (e .enclave) (c .before .find .result) (stands (c .before .before .before .before .before .before .before .before .before) .ascends) (c .before .find .ensures) (c .if4 .left)
 
 near : (c : tie.Else4) → c .before .find .result < 32
-near c = let f = stands (c .before .before .before .before .before .before .before .before .before) .bounds .few in let l = c .if4 .left in omega arith
+near c = let f = stands (c .before .before .before .before .before .before .before .before .before) .few in let l = c .if4 .left in omega arith
 
 asked : (c : tie.After-may-begin) → let e = entered (c .before .before .before .before .before .before .before .before .before .before .before) .args in
     mayBegin (view (e .t1) .inputHorizon) (e .enclave) (e .tag) (view (e .t1)) ≡ c .may-begin .result
@@ -71,66 +72,69 @@ asked c =
 -- ---- the answers
 
 is-sound-requires : tie.Need-is-sound-requires
-is-sound-requires c κs = search needs
+is-sound-requires c κs = tt
 
 with-reply-requires : tie.Need-with-reply-requires
-with-reply-requires c κs = search needs
+with-reply-requires c κs = tt
 
 returns : tie.Need-returns
 returns c =
     let e = entered (c .before .before) .args in
-    ends-27 (lent 0 (begin (e .enclave) (e .tag))) (e .t1) _ No (c .with-reply .ensures) (sym (tested (c .before .before)) ∙ not-true _ (c .before .if1 .taken)) (refused-no (mayBegin (view (e .t1) .inputHorizon) (e .enclave) (e .tag) (view (e .t1))))
+    promised-27 (lent 0 (begin (e .enclave) (e .tag))) (e .t1) No (tested (c .before .before)) (c .before .if1 .taken)
+    (refused-no (mayBegin (view (e .t1) .inputHorizon) (e .enclave) (e .tag) (view (e .t1)))) (c .with-reply .ensures)
 
 is-proper-requires : tie.Need-is-proper-requires
-is-proper-requires c κs = search needs
+is-proper-requires c κs = tt
 
 with-reply-requires-2 : tie.Need-with-reply-requires-2
-with-reply-requires-2 c κs = search needs
+with-reply-requires-2 c κs = tt
 
 returns-2 : tie.Need-returns-2
 returns-2 c =
     let e = entered (c .before .before .before .before) .args in
-    ends-refused (lent 0 (begin (e .enclave) (e .tag))) (e .t1) _ ImproperTag No (c .with-reply2 .ensures)
+    promised-refused (lent 0 (begin (e .enclave) (e .tag))) (e .t1) ImproperTag No
     (asks-7 (begin (e .enclave) (e .tag)) (At (e .tag)) (asks-begin (e .enclave) (e .tag)) (e .t1) (stands (c .before .before .before) .passing)
     (sym (c .before .before .is-proper .ensures) ∙ not-true _ (c .before .if2 .taken)))
-    (omega arith) (refused-no (mayBegin (view (e .t1) .inputHorizon) (e .enclave) (e .tag) (view (e .t1))))
+    (omega arith) (refused-no (mayBegin (view (e .t1) .inputHorizon) (e .enclave) (e .tag) (view (e .t1)))) (c .with-reply2 .ensures)
 
 is-absent-requires : tie.Need-is-absent-requires
-is-absent-requires c κs = search needs
+is-absent-requires c κs = tt
 
 with-reply-requires-3 : tie.Need-with-reply-requires-3
-with-reply-requires-3 c κs = search needs
+with-reply-requires-3 c κs = tt
 
 returns-3 : tie.Need-returns-3
 returns-3 c =
     let e = entered (c .before .before .before .before .before .before .before) .args in
     let h = sym (c .before .before .is-absent .ensures) ∙ c .before .if3 .taken in
-    ends-unchanged _ (e .t1) (stands (c .before .before .before .before .before .before)) _ Yes (c .with-reply3 .ensures) (admitted (c .before .before .before .before)) (ap says (sym (may-free (e .t1) (e .enclave) (e .tag) h)))
-    (step-free (e .t1) (e .enclave) (e .tag) h)
+    promised-still _ (e .t1) (stands (c .before .before .before .before .before .before)) (admitted (c .before .before .before .before)) Yes
+    (ap says (sym (may-free (e .t1) (e .enclave) (e .tag) h))) (step-free (e .t1) (e .enclave) (e .tag) h) (c .with-reply3 .ensures)
 
 find-requires : tie.Need-find-requires
-find-requires c κs = stands (c .before .before .before .before .before .before .before) .bounds .few
+find-requires c κs = stands (c .before .before .before .before .before .before .before) .few
 
 with-reply-requires-4 : tie.Need-with-reply-requires-4
-with-reply-requires-4 c κs = search needs
+with-reply-requires-4 c κs = tt
 
 returns-4 : tie.Need-returns-4
 returns-4 c =
     let e = entered (c .before .before .before .before .before .before .before .before .before .before .before) .args in
     let y = may-unknown (e .t1) (e .enclave) (e .tag) (capped (c .before .before .before .before .before)) (unknown-knows (e .t1) (e .enclave) (c .before .before .find .result) (c .before .before .find .ensures) (c .before .if4 .taken)) in
-    ends-unchanged _ (e .t1) (stands (c .before .before .before .before .before .before .before .before .before .before)) _ No (c .with-reply4 .ensures) (admitted (c .before .before .before .before .before .before .before .before)) (ap says (sym y)) (step-denied (e .t1) (e .enclave) (e .tag) y)
+    promised-still _ (e .t1) (stands (c .before .before .before .before .before .before .before .before .before .before)) (admitted (c .before .before .before .before .before .before .before .before)) No
+    (ap says (sym y)) (step-denied (e .t1) (e .enclave) (e .tag) y) (c .with-reply4 .ensures)
 
 may-begin-requires : tie.Need-may-begin-requires
-may-begin-requires c κs = search needs
+may-begin-requires c κs = tt
 
 with-reply-requires-5 : tie.Need-with-reply-requires-5
-with-reply-requires-5 c κs = search needs
+with-reply-requires-5 c κs = tt
 
 returns-5 : tie.Need-returns-5
 returns-5 c =
     let e = entered (c .before .before .before .before .before .before .before .before .before .before .before .before .before) .args in
     let y = asked (c .before .before) ∙ not-true _ (c .before .if5 .taken) in
-    ends-unchanged _ (e .t1) (stands (c .before .before .before .before .before .before .before .before .before .before .before .before)) _ No (c .with-reply5 .ensures) (admitted (c .before .before .before .before .before .before .before .before .before .before)) (ap says (sym y)) (step-denied (e .t1) (e .enclave) (e .tag) y)
+    promised-still _ (e .t1) (stands (c .before .before .before .before .before .before .before .before .before .before .before .before)) (admitted (c .before .before .before .before .before .before .before .before .before .before)) No
+    (ap says (sym y)) (step-denied (e .t1) (e .enclave) (e .tag) y) (c .with-reply5 .ensures)
 
 add-seconds : tie.Need-add-seconds
 add-seconds c = let h = near (c .before .before .before .before) in search needs
@@ -160,7 +164,7 @@ element-write-state : tie.Need-element-write-state
 element-write-state c = let h = near (c .before .before .before .before) in search needs
 
 with-reply-requires-6 : tie.Need-with-reply-requires-6
-with-reply-requires-6 c κs = search needs
+with-reply-requires-6 c κs = tt
 
 returns-6 : tie.Need-returns-6
 returns-6 c =
@@ -170,11 +174,13 @@ returns-6 c =
     let st = stands (c .before .before .before .before .before .before .before .before .before .before .before .before .before .before) in
     let y = asked (c .before .before .before .before) ∙ not-false _ (c .before .before .before .if5 .left) in
     let q = proper (c .before .before .before .before .before .before .before .before .before .before .before .before) in
-    let n = st .bounds .few in
-    ends-taken _ (e .t1) st (startedAt (e .t1) i (e .tag)) _ Yes
-    (c .with-reply6 .ensures ∙ ap₂ (λ a b. replied (startedAt (e .t1) i (record { seconds = a; nanoseconds = b; microstep = e .tag .microstep })) Taken Yes 0) (search (needs, c .before .before .struct-told .given)) (search (needs, c .before .struct-told2 .given))) (admitted (c .before .before .before .before .before .before .before .before .before .before .before .before)) (ap says (sym y))
-    (step-begun (e .t1) (e .enclave) (e .tag) (capped (d .before .before .before .before)) y ∙ ap quiet (started-view (e .t1) (e .enclave) i (e .tag) (st .good) n (seat d) q))
-    (started-beyond (e .t1) (e .enclave) i (e .tag) (st .good) n (seat d) q) (started-neat (e .t1) (e .enclave) i (e .tag) (st .good) n (seat d) q)
+    let n = st .few in
+    promised-taken _ (e .t1) st (admitted (c .before .before .before .before .before .before .before .before .before .before .before .before)) Yes (ap says (sym y))
+    (startedAt (e .t1) i (e .tag)) [] (started-beyond (e .t1) (e .enclave) i (e .tag) (st .good) n (seat d) q) (started-neat (e .t1) (e .enclave) i (e .tag) (st .good) n (seat d) q)
+    (step-begun (e .t1) (e .enclave) (e .tag) (capped (d .before .before .before .before)) y ∙ ap quiet (started-view (e .t1) (e .enclave) i (e .tag) (st .good) n (seat d) q)) refl
+    (c .with-reply6 .ensures
+    ∙ ap₂ (λ a b. replied (startedAt (e .t1) i (record { seconds = a; nanoseconds = b; microstep = e .tag .microstep })) Taken Yes 0)
+    (search (needs, c .before .before .struct-told .given)) (search (needs, c .before .struct-told2 .given)))
 
 pub begin-tag-spec : {M : Type 1} → statement M
 begin-tag-spec =

@@ -1,15 +1,12 @@
 -- `gate::input_publishing` keeps the promise of the call `input`: it refuses 27, then 3, and else stores what the rule says. Assumes nothing.
-use mathlib.Core.Path.{_≡_, refl, sym, _∙_}
+use mathlib.Core.Path.{_≡_, refl}
 use mathlib.Core.Bool.{_&&_}
-use borrow.Author.Tests.{not-true, not-false}
 use Rattle.rules.specs.Calls.{isSound}
 use Rattle.rules.specs.Model.{Silent}
 use Rattle.state.specs.View.{view, represents}
 use Rattle.state.specs.Parts.{Sized}
-use Rattle.gate.proofs.Standing.{sized-by, lent-whole, Standing, standing}
-use Rattle.gate.proofs.Ends.{ends-27}
+use Rattle.calls.proofs.Standing.{sized-by, whole, Standing, standing, promised-27}
 use Rattle.gate.proofs.Noticing.{ends-unknown, ends-noticed}
-use borrow.Author.Needs.{needs}
 use Rattle.gate.proofs.input_publishing.Statement.{statement}
 use Rattle.gate.proofs.input_publishing.Tie as tie
 
@@ -24,48 +21,48 @@ sized e =
     sized-by (e .args .t1) (f .0 .1 .0 .1) (f .1 .0 .1 .0 .1) (f .1 .1 .0 .1 .0 .1) (f .1 .1 .1 .0 .1 .0 .1) (f .1 .1 .1 .1 .0 .1 .0 .1) (f .1 .1 .1 .1 .1 .0 .1 .0 .1) (f .1 .1 .1 .1 .1 .1 .0 .1 .0 .1) (f .1 .1 .1 .1 .1 .1 .1 .0 .1 .0 .1)
 
 tested : (c : tie.After-is-sound) → let s = entered c .args .t1 in c .is-sound .result ≡ (represents s && isSound (view s))
-tested c = c .is-sound .ensures (entered c .args .t1) (lent-whole (entered c .args .t1))
+tested c = c .is-sound .ensures (entered c .args .t1) (whole (entered c .args .t1))
 
 stands : (c : tie.Else1) → Standing (entered (c .before) .args .t1)
-stands c = standing (entered (c .before) .args .t1) (sized (entered (c .before))) (sym (tested (c .before)) ∙ not-false (c .before .is-sound .result) (c .if1 .left))
+stands c = standing (entered (c .before) .args .t1) (sized (entered (c .before))) (tested (c .before)) (c .if1 .left)
 
 -- ---- the answers
 
 is-sound-requires : tie.Need-is-sound-requires
-is-sound-requires c κs = search needs
+is-sound-requires c κs = tt
 
 with-reply-requires : tie.Need-with-reply-requires
-with-reply-requires c κs = search needs
+with-reply-requires c κs = tt
 
 returns : tie.Need-returns
-returns c = ends-27 _ _ _ Silent (c .with-reply .ensures) (sym (tested (c .before .before)) ∙ not-true _ (c .before .if1 .taken)) refl
+returns c = promised-27 _ _ Silent (tested (c .before .before)) (c .before .if1 .taken) refl (c .with-reply .ensures)
 
 are-known-requires : tie.Need-are-known-requires
-are-known-requires c κs = stands (c .before .before) .bounds .few
+are-known-requires c κs = stands (c .before .before) .few
 
 with-reply-requires-2 : tie.Need-with-reply-requires-2
-with-reply-requires-2 c κs = search needs
+with-reply-requires-2 c κs = tt
 
 returns-2 : tie.Need-returns-2
 returns-2 c = ends-unknown _ _ (stands (c .before .before .before .before .before)) (c .before .before .are-known .ensures) _ (c .before .if2 .taken) (c .with-reply2 .ensures)
 
 clear-requires : tie.Need-clear-requires
-clear-requires c κs = stands (c .before .before .before .before .before .before .before) .bounds .few
+clear-requires c κs = stands (c .before .before .before .before .before .before .before) .few
 
 still-published-requires : tie.Need-still-published-requires
-still-published-requires c κs = stands (c .before .before .before .before .before .before .before .before .before .before) .bounds .few
+still-published-requires c κs = stands (c .before .before .before .before .before .before .before .before .before .before) .few
 
 revised-requires : tie.Need-revised-requires
-revised-requires c κs = search needs
+revised-requires c κs = tt
 
 unprobed-requires : tie.Need-unprobed-requires
-unprobed-requires c κs = search needs
+unprobed-requires c κs = tt
 
 without-grants-requires : tie.Need-without-grants-requires
-without-grants-requires c κs = search needs
+without-grants-requires c κs = tt
 
 with-reply-requires-3 : tie.Need-with-reply-requires-3
-with-reply-requires-3 c κs = search needs
+with-reply-requires-3 c κs = tt
 
 returns-3 : tie.Need-returns-3
 returns-3 c =

@@ -6,7 +6,7 @@ use Rattle.gate.proofs.is_within_cell.Statement.{statement}
 use Rattle.gate.proofs.is_within_cell.Tie as tie
 
 optional-of-requires : tie.Need-optional-of-requires
-optional-of-requires c κs = search needs
+optional-of-requires c κs = tt
 
 is-within-requires : tie.Need-is-within-requires
 is-within-requires c κs = search needs

@@ -5,10 +5,13 @@ use native.Mathlib.Omega.{arith}
 use borrow.Author.Tests.{not-true, not-false}
 use Rattle.rules.specs.Calls.{isSound}
 use Rattle.state.specs.View.{view, represents}
-use Rattle.gate.proofs.Standing.{lent-whole, counted}
-use Prim.Native.Nat.{_<_}
+use Rattle.rules.proofs.Sound.{sound-ascending}
+use Rattle.state.proofs.Neat.{count-bounds}
+use Rattle.calls.proofs.Refusals.{passes}
+use Rattle.calls.proofs.Standing.{whole, is-so}
+use Prim.Native.Nat.{_≤_, _<_}
+use lib.Dec.{T}
 use Rattle.state.proofs.Rows.{seated, unknown-knows}
-use Rattle.gate.proofs.Standing.{Counted}
 use Rattle.gate.specs.Replies.{Admits}
 use borrow.Author.Needs.{needs}
 use Rattle.gate.proofs.look.Statement.{statement}
@@ -20,36 +23,39 @@ abbrev entered : tie.After-is-sound → tie.Start
 entered c = c .before .before .before .before .before .before .before .before .before .before .before .before .before
 
 tested : (c : tie.After-is-sound) → let s = entered c .args .t1 in c .is-sound .result ≡ (represents s && isSound (view s))
-tested c = c .is-sound .ensures (entered c .args .t1) (lent-whole (entered c .args .t1))
+tested c = c .is-sound .ensures (entered c .args .t1) (whole (entered c .args .t1))
 
 passing : (c : tie.Else1) → let s = entered (c .before) .args .t1 in (represents s && isSound (view s)) ≡ true
 passing c = sym (tested (c .before)) ∙ not-false (c .before .is-sound .result) (c .if1 .left)
 
-bounds : (c : tie.Else1) → Counted (entered (c .before) .args .t1)
-bounds c = counted (entered (c .before) .args .t1) (passing c)
+sound : (c : tie.Else1) → T (isSound (view (entered (c .before) .args .t1)))
+sound c = is-so (passes (entered (c .before) .args .t1) (passing c) .sound)
+
+few : (c : tie.Else1) → entered (c .before) .args .t1 .count ≤ 32
+few c = count-bounds (entered (c .before) .args .t1) (sound c) .1
 
 admits : (c : tie.Else2) → let e = entered (c .before .before .before) .args in Admits (e .t1) (e .tag)
 admits c = record { passes = passing (c .before .before); proper = sym (c .before .is-proper .ensures) ∙ not-false (c .before .is-proper .result) (c .if2 .left) }
 
 near : (c : tie.Else3) → c .before .find .result < 32
-near c = let f = bounds (c .before .before .before .before .before .before) .few in let l = c .if3 .left in omega arith
+near c = let f = few (c .before .before .before .before .before .before) in let l = c .if3 .left in omega arith
 
 -- ---- the answers
 
 is-sound-requires : tie.Need-is-sound-requires
-is-sound-requires c κs = search needs
+is-sound-requires c κs = tt
 
 returns : tie.Need-returns
 returns c = sym (tested (c .before)) ∙ not-true _ (c .if1 .taken)
 
 is-proper-requires : tie.Need-is-proper-requires
-is-proper-requires c κs = search needs
+is-proper-requires c κs = tt
 
 returns-2 : tie.Need-returns-2
 returns-2 c = (passing (c .before .before), sym (c .before .is-proper .ensures) ∙ not-true _ (c .if2 .taken))
 
 find-requires : tie.Need-find-requires
-find-requires c κs = bounds (c .before .before .before .before) .few
+find-requires c κs = few (c .before .before .before .before)
 
 returns-3 : tie.Need-returns-3
 returns-3 c =
@@ -74,7 +80,7 @@ returns-4 c =
       admits (d .before .before .before .before),
       record {
         place = d .before .find .result;
-        seat = seated _ _ _ (bounds (d .before .before .before .before .before .before) .ascends) (d .before .find .ensures) (d .if3 .left);
+        seat = seated _ _ _ (sound-ascending _ (sound (d .before .before .before .before .before .before))) (d .before .find .ensures) (d .if3 .left);
         started-is = c .before .before .before .before .before .tag-at .ensures;
         completed-is = c .tag-at2 .ensures;
       },

@@ -32,7 +32,7 @@ returns c =
     (λ s h e k. agreed-awaits s h (a .c) e _ (a .lifecycle) k _ (c .before .before .lacks-authorization .ensures) (c .moved-to3 .ensures) (c .before .if1 .taken))
 
 stopped-requires : tie.Need-stopped-requires
-stopped-requires c κs = search needs
+stopped-requires c κs = tt
 
 returns-2 : tie.Need-returns-2
 returns-2 c =

@@ -3,14 +3,15 @@ use mathlib.Core.Path.{_≡_, refl}
 use mathlib.Core.Bool.{_&&_}
 use native.Mathlib.Omega.{arith}
 use borrow.Author.Needs.{needs}
-use borrow.Author.Tests.{not-true, not-false}
 use Rattle.rules.specs.Model.{stop}
 use Rattle.rules.specs.Stop.{stopOf}
 use Rattle.rules.specs.Calls.{isSound}
 use Rattle.state.specs.View.{view, represents}
 use Rattle.state.specs.Parts.{Sized}
-use Rattle.observation.proofs.Ends.{whole, sized-by, ends-27, ends-8, sound-count, Enters, enters}
-use Rattle.observation.proofs.Taking.{take-stop, bare-ends}
+use Rattle.calls.specs.Called.{lent}
+use Rattle.calls.proofs.Standing.{sized-by, whole, Standing, standing}
+use Rattle.calls.proofs.Ends.{ends-27, ends-8}
+use Rattle.observation.proofs.Taking.{Enters, take-stop, bare-ends}
 use Rattle.observation.proofs.stop.Statement.{statement}
 use Rattle.observation.proofs.stop.Tie as tie
 
@@ -25,48 +26,49 @@ sized : (c : tie.Start) → Sized (c .args .t1)
 sized c =
     let f = c .good .0 .1 .1 .1 in
     let g = f .1 .1 .1 .1 in
-    sized-by (c .args .t1) _ _ _ _ _ _ _ _ (f .0 .1 .0 .1) (f .1 .0 .1 .0 .1) (f .1 .1 .0 .1 .0 .1) (f .1 .1 .1 .0 .1 .0 .1)
+    sized-by (c .args .t1) (f .0 .1 .0 .1) (f .1 .0 .1 .0 .1) (f .1 .1 .0 .1 .0 .1) (f .1 .1 .1 .0 .1 .0 .1)
     (g .0 .1 .0 .1) (g .1 .0 .1 .0 .1) (g .1 .1 .0 .1 .0 .1) (g .1 .1 .1 .0 .1 .0 .1)
 
-passed : (c : tie.Else2) → Enters stop (entry (c .before .before) .args .t1) (entry (c .before .before) .args .room .now)
-passed c =
-    let a = entry (c .before .before) in
-    enters stop (a .args .t1) (a .args .room .now) _ refl (sized a) (sound-is (c .before .before)) (not-false _ (c .before .if1 .left)) (c .if2 .left)
+stands : (c : tie.Else1) → Standing (entry (c .before) .args .t1)
+stands c = standing (entry (c .before) .args .t1) (sized (entry (c .before))) (sound-is (c .before)) (c .if1 .left)
+
+passed : (c : tie.Else2) → Enters (entry (c .before .before) .args .t1) (entry (c .before .before) .args .room .now)
+passed c = record { stands = stands (c .before); large = c .if2 .left }
 
 is-sound-requires : tie.Need-is-sound-requires
-is-sound-requires c κs = search needs
+is-sound-requires c κs = tt
 
 with-reply-requires : tie.Need-with-reply-requires
-with-reply-requires c κs = search needs
+with-reply-requires c κs = tt
 
 returns : tie.Need-returns
 returns c =
     let a = entry (c .before .before) .args in
-    ends-27 stop (a .t1) (a .room .now) refl _ (sound-is (c .before .before)) (not-true _ (c .before .if1 .taken)) (c .with-reply .ensures)
+    ends-27 (lent _ stop) (a .t1) (a .room .now) refl (sound-is (c .before .before)) (c .before .if1 .taken) (c .with-reply .ensures)
 
 add-if2 : tie.Need-add-if2
-add-if2 c = let n = sound-count (entry (c .before) .args .t1) _ (sound-is (c .before)) (not-false _ (c .if1 .left)) in omega arith
+add-if2 c = let n = stands c .few in omega arith
 
 mul-if2 : tie.Need-mul-if2
-mul-if2 c = let n = sound-count (entry (c .before) .args .t1) _ (sound-is (c .before)) (not-false _ (c .if1 .left)) in omega arith
+mul-if2 c = let n = stands c .few in omega arith
 
 with-reply-requires-2 : tie.Need-with-reply-requires-2
-with-reply-requires-2 c κs = search needs
+with-reply-requires-2 c κs = tt
 
 returns-2 : tie.Need-returns-2
 returns-2 c =
     let d = c .before .before .before in
     let a = entry d .args in
-    ends-8 stop (a .t1) (a .room .now) refl _ (sound-is d) (not-false _ (c .before .before .if1 .left)) refl (c .before .if2 .taken) (c .with-reply2 .ensures)
+    ends-8 (lent _ stop) (a .t1) (a .room .now) refl (stands (c .before .before) .passing) refl (c .before .if2 .taken) (c .with-reply2 .ensures)
 
 stopped-requires : tie.Need-stopped-requires
-stopped-requires c κs = search needs
+stopped-requires c κs = tt
 
 write-said-requires : tie.Need-write-said-requires
 write-said-requires c κs = let n = passed (c .before .before .before) .large in omega arith
 
 with-reply-requires-3 : tie.Need-with-reply-requires-3
-with-reply-requires-3 c κs = search needs
+with-reply-requires-3 c κs = tt
 
 same-length : tie.Need-same-length
 same-length c = search needs
@@ -77,7 +79,7 @@ returns-3 c =
     let m = w .before .before .before in
     let a = entry (m .before .before .before) .args in
     bare-ends (passed (m .before)) refl stopOf (take-stop (view (a .t1))) (m .stopped .result) (λ h. m .stopped .ensures (a .t1) h refl)
-    (w .write-said .ensures .0) (c .with-reply3 .ensures) (w .write-said .ensures .1)
+    (w .write-said .ensures .0) (w .write-said .ensures .1) (c .with-reply3 .ensures)
 
 pub stop-spec : {M : Type 1} → statement M
 stop-spec =

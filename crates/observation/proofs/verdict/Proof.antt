@@ -3,8 +3,7 @@ use mathlib.Core.Path.{ap, _∙_}
 use borrow.Author.Needs.{needs}
 use Rattle.rules.specs.Observation.{verdictOf}
 use Rattle.state.specs.Cells.{phaseOf}
-use Rattle.state.proofs.Round.{number-phase}
-use Rattle.observation.proofs.Numbers.{phase-below}
+use Rattle.state.proofs.Round.{number-phase, phase-below}
 use Rattle.observation.proofs.verdict.Statement.{statement}
 use Rattle.observation.proofs.verdict.Tie as tie
 

@@ -5,7 +5,7 @@ use Rattle.observation.proofs.verdict_in.Statement.{statement}
 use Rattle.observation.proofs.verdict_in.Tie as tie
 
 observation-number-requires : tie.Need-observation-number-requires
-observation-number-requires c κs = search needs
+observation-number-requires c κs = tt
 
 looked-up-requires : tie.Need-looked-up-requires
 looked-up-requires c κs = (c .before .pre, rw (c .observation-number .ensures) (observation-bound (c .before .args .observation)))

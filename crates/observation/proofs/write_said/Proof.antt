@@ -1,9 +1,25 @@
 -- `observation::write_said` meets its contract: a record fits at the front, and nothing said leaves the room as it was. Assumes nothing.
-use mathlib.Core.Path.{refl}
-use Rattle.observation.proofs.Ends.{wrote-none, wrote-one}
+use mathlib.Core.Path.{_≡_, refl, sym, ap, _∙_}
+use mathlib.Core.List.{List, [], _∷_, append-nil}
+use Prim.Native.Nat.{ℕ, _+_, _*_, _≤_}
+use native.Mathlib.Omega.{arith}
+use lib.ListN.{length}
+use Rattle.bytes.specs.Runs.{putAt, written}
+use Rattle.bytes.proofs.Runs.{written-fits}
+use Rattle.actions.specs.Record.{recordOf, recordsOf}
+use Rattle.actions.proofs.Record.{length-record}
+use Rattle.rules.specs.Model.{CoordinationAction}
+use Rattle.calls.proofs.Ends.{wrote-none}
 use borrow.Author.Needs.{needs}
 use Rattle.observation.proofs.write_said.Statement.{statement}
 use Rattle.observation.proofs.write_said.Tie as tie
+
+wrote-one : (a : CoordinationAction) (room : List ℕ) {after : List ℕ} → 56 ≤ length room
+    → after ≡ written room (56 * 0) (recordOf a) → after ≡ putAt room 0 (recordsOf (a ∷ []))
+unfolding recordsOf
+wrote-one a room h w =
+    let fits : 0 + length (recordOf a) ≤ length room = omega (arith, length-record a) in
+    w ∙ written-fits room 0 (recordOf a) fits ∙ ap (putAt room 0) (sym (append-nil (recordOf a)))
 
 enum-told : tie.Need-enum-told
 enum-told c = search needs

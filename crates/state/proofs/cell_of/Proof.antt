@@ -1,6 +1,5 @@
 -- `state::cell_of` is `cellOf`, by its cases. Assumes nothing.
 use borrow.Author.Needs.{needs}
-use mathlib.Core.Path.{refl}
 use Rattle.state.proofs.cell_of.Statement.{statement}
 use Rattle.state.proofs.cell_of.Tie as tie
 

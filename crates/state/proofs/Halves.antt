@@ -1,50 +1,35 @@
 -- First halves of own rules: the tests on the phase as the code makes them, and the participants after a change of one enclave's parts.
--- By the laws of the columns' participants (state, Rows) and of the bounds (state, Neat). Assumes nothing.
+-- By the laws of the columns' participants and of the bounds. Assumes nothing.
 use mathlib.Core.Path.{_≡_, refl, sym, ap, _∙_, subst}
 use mathlib.Core.Bool.{Bool, true, false}
 use mathlib.Core.List.{List, map}
-use Prim.Native.Nat.{ℕ, zero, suc, _≤_, _<_}
+use Prim.Native.Nat.{ℕ, _<_}
 use native.Mathlib.Omega.{arith}
-use lib.Dec.{eqb}
+use lib.Dec.{T, eqb}
 use borrow.Author.Tests.{eqb-true, eqb-false}
-use Rattle.records.specs.Numbers.{phaseNumber}
 use Rattle.rules.specs.Model.{Active, Participant, State, Step}
 use Rattle.rules.specs.Set.{withParticipants}
 use Rattle.rules.specs.Walk.{at, is, isStopped, quiet}
 use Rattle.rules.specs.Publication.{forget}
-use Rattle.rules.proofs.Sound.{sound-number}
 use Rattle.state.specs.declared.FederateCoordinationState.{FederateCoordinationState as Held}
 use Rattle.state.specs.declared.Parts.{Parts}
 use Rattle.state.specs.declared.Next.the-variants.{Says}
 use Rattle.state.specs.declared.Decided.{Decided}
-use Rattle.state.specs.Cells.{phaseOf}
-use Rattle.state.specs.View.{rowAt, rowsOf, view}
+use Rattle.state.specs.View.{rowAt, rowsOf, view, represents}
 use Rattle.state.specs.Parts.{Seated, partsOf, rowPut, rebuilt, cleared}
 use Rattle.state.specs.Decides.{Decides, Good, conclusion, halfway}
-use Rattle.state.proofs.Rows.{length-rows, map-tab, only-row, rows-cleared, rows-rebuilt, tab-same}
-use Rattle.state.proofs.Neat.{phase-bound}
+use Rattle.state.proofs.Rows.{map-tab, only-row, rows-cleared, rows-rebuilt, tab-same}
+use Rattle.state.proofs.Neat.{phase-bound, count-bounds}
+use Rattle.state.proofs.Round.{phase-number}
 
 -- ---- the phase
 
-phase-number : (n : ℕ) → n ≤ 6 → phaseNumber (phaseOf n) ≡ n
-phase-number zero h = refl
-phase-number (suc zero) h = refl
-phase-number (suc (suc zero)) h = refl
-phase-number (suc (suc (suc zero))) h = refl
-phase-number (suc (suc (suc (suc zero)))) h = refl
-phase-number (suc (suc (suc (suc (suc zero))))) h = refl
-phase-number (suc (suc (suc (suc (suc (suc zero)))))) h = refl
-phase-number (suc (suc (suc (suc (suc (suc (suc n))))))) h = absurd (omega arith)
-
-module _ (s : Held) (g : Good s) where
+module _ (s : Held) (h : T (represents s)) where
   pub stopped-is : isStopped (view s) ≡ eqb (s .coordination .phase) 6
-  stopped-is = ap (λ n. eqb n 6) (phase-number (s .coordination .phase) (phase-bound s (g .neat)))
+  stopped-is = ap (λ n. eqb n 6) (phase-number (s .coordination .phase) (phase-bound s h))
 
   pub active-is : is Active (view s) ≡ eqb (s .coordination .phase) 0
-  active-is = ap (λ n. eqb n 0) (phase-number (s .coordination .phase) (phase-bound s (g .neat)))
-
-  pub few : s .count ≤ 32
-  few = subst (λ (n : ℕ). n ≤ 32) (length-rows s) (sound-number (view s) (g .sound) .1)
+  active-is = ap (λ n. eqb n 0) (phase-number (s .coordination .phase) (phase-bound s h))
 
 -- ---- the participants after a change of enclave e's parts
 
@@ -63,14 +48,14 @@ at-agree s e i f g d h =
 module _ (s : Held) (e i : ℕ) (p : Parts) (g : Good s) (d : Seated s e i) where
   pub rows-only : (f : Participant → Participant) → rowPut (p .row) (rowAt s i) ≡ f (rowAt s i)
       → rowsOf (rebuilt s i p (s .observation) (s .gate)) ≡ map (at e f) (rowsOf s)
-  rows-only f h = rows-rebuilt s e i p (g .sized) (few s g) d ∙ at-agree s e i (rowPut (p .row)) f d h
+  rows-only f h = rows-rebuilt s e i p (g .sized) (count-bounds s (g .sound) .1) d ∙ at-agree s e i (rowPut (p .row)) f d h
 
   pub rows-kept : rowPut (p .row) (rowAt s i) ≡ rowAt s i → rowsOf (rebuilt s i p (s .observation) (s .gate)) ≡ rowsOf s
-  rows-kept h = rows-rebuilt s e i p (g .sized) (few s g) d ∙ sym (only-row s s e i (rowPut (p .row)) d refl (sym h) (λ j q n. refl))
+  rows-kept h = rows-rebuilt s e i p (g .sized) (count-bounds s (g .sound) .1) d ∙ sym (only-row s s e i (rowPut (p .row)) d refl (sym h) (λ j q n. refl))
 
   pub rows-forgotten : (f : Participant → Participant) → rowPut (p .row) (rowAt s i) ≡ f (rowAt s i)
       → rowsOf (rebuilt s i p (cleared (s .count) (s .observation)) (s .gate)) ≡ map forget (map (at e f) (rowsOf s))
-  rows-forgotten f h = rows-cleared s i p (g .sized) (few s g) ∙ ap (map forget) (rows-only f h)
+  rows-forgotten f h = rows-cleared s i p (g .sized) (count-bounds s (g .sound) .1) ∙ ap (map forget) (rows-only f h)
 
 pub view-kept : (s : Held) (e i : ℕ) → Good s → Seated s e i → view (rebuilt s i (partsOf s i) (s .observation) (s .gate)) ≡ view s
 view-kept s e i g d = ap (λ (ps : List Participant). withParticipants ps (view s)) (rows-kept s e i (partsOf s i) g d refl)
