@@ -1,0 +1,51 @@
+-- `listing::put_end` meets its contract: the word, three fields, and the rest right after them. Assumes nothing.
+use mathlib.Core.List.{[], _∷_}
+use native.Mathlib.Omega.{arith}
+use borrow.Author.Needs.{needs}
+use Rattle.printing.proofs.Runs.{at-most}
+use Rattle.listing.specs.Fields.{words}
+use Rattle.listing.specs.Listing.{endLine}
+use Rattle.listing.specs.declared.Field.the-variants.{Number, Time, Mark, Phase}
+use Rattle.listing.proofs.Lines.{then-line, then-rest}
+use Rattle.listing.proofs.put_end.Statement.{statement}
+use Rattle.listing.proofs.put_end.Tie as tie
+
+slice-aggregate-put-text : tie.Need-slice-aggregate-put-text
+slice-aggregate-put-text c = search needs
+
+put-text-requires : tie.Need-put-text-requires
+put-text-requires c κs = search needs
+
+put-fields-requires : tie.Need-put-fields-requires
+put-fields-requires c κs = search needs
+
+put-rest-requires : tie.Need-put-rest-requires
+put-rest-requires c κs = search needs
+
+same-length : tie.Need-same-length
+same-length c = search needs
+
+returns : tie.Need-returns
+unfolding endLine
+returns c =
+    let rest = c .before .before in
+    let half = rest .before .before .before .before in
+    let word = half .before .before .before .before in
+    let s = word .before .before .before .before .args in
+    let one = Number (s .revision) in
+    let two = Phase (s .phase) in
+    let three = Number (s .generation) in
+    let last = Time (s .completed-frontier) ∷ Time (s .grant-horizon) ∷ Mark (s .settled) ∷ [] in
+    let six = then-rest one two three last (half .put-fields .ensures) (rest .put-rest .ensures) (omega arith) in
+    at-most (then-line (words (one ∷ two ∷ three ∷ last)) (word .put-text .ensures) six (omega arith)) (omega arith)
+
+pub put-end-spec : {M : Type 1} → statement M
+put-end-spec =
+    tie.close
+    (tie.spec
+    slice-aggregate-put-text
+    put-text-requires
+    put-fields-requires
+    put-rest-requires
+    same-length
+    returns)

@@ -1,0 +1,7 @@
+pub mod Lengths
+pub mod Lists
+pub mod Opens
+pub mod Runs
+pub mod Steps
+pub mod Turns
+pub mod Widths

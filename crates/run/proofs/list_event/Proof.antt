@@ -1,0 +1,68 @@
+-- `run::list_event` takes an event by its call and lists it. Its records read back, as each action of a call can be written. Assumes nothing.
+use mathlib.Core.Path.{refl}
+use native.Mathlib.Omega.{arith}
+use Rattle.events.specs.Told.{toldEvent}
+use Rattle.writable.proofs.Declared.{state-fits}
+use Rattle.writable.proofs.ReadBack.{actions-are-writable}
+use Rattle.run.specs.Run.{given}
+use Rattle.run.proofs.Lists.{takes-few, length-kept, lists}
+use Rattle.run.proofs.Widths.{call-fits}
+use borrow.Author.Needs.{needs}
+use Rattle.run.proofs.list_event.Statement.{statement}
+use Rattle.run.proofs.list_event.Tie as tie
+use Rattle.run.proofs.list_event.Reads as reads
+use Rattle.run.proofs.list_event.Lts as lts
+use Rattle.listing.proofs.put_actions.Reads as put-actions-reads
+use Rattle.listing.proofs.put_event.Reads as put-event-reads
+use Rattle.take.proofs.take.Reads as take-reads
+
+-- src/lib.rt:88:51
+slice-aggregate-take : tie.Need-slice-aggregate-take
+slice-aggregate-take c = search needs
+
+-- src/lib.rt:88:9
+take-requires : tie.Need-take-requires
+take-requires c κs = search needs
+
+-- src/lib.rt:93:9
+put-event-requires : tie.Need-put-event-requires
+put-event-requires c κs = search needs
+
+-- src/lib.rt:94:49
+slice-aggregate-put-actions : tie.Need-slice-aggregate-put-actions
+slice-aggregate-put-actions c = search needs
+
+-- src/lib.rt:94:9
+put-actions-requires : tie.Need-put-actions-requires
+put-actions-requires c κs =
+    let a = c .before .before .before .before .before .before .before .before .before .before .before .before .before .args in
+    let few = takes-few (toldEvent (a .event) (a .listed .now)) (a .state) _ _ (c .before .before .before .before .before .before .before .before .before .take .result) (c .before .before .before .before .before .before .before .before .before .take .ensures) in
+    let told = c .before .before .before .before .put-event .ensures .within in
+    let room = c .before .before .before .before .before .before .before .before .before .before .before .before .before .pre in
+    omega (arith, length-kept (c .before .before .before .before .put-event .ensures) room)
+
+-- src/lib.rt:76:1
+same-length : tie.Need-same-length
+same-length c = search needs
+
+-- src/lib.rt:76:1
+returns : tie.Need-returns
+returns c =
+    let a = c .before .before .before .before .before .before .before .before .before .before .before .before .before .before .before .before .args in
+    let t = c .before .before .before .before .before .before .before .before .before .before .before .before .take .ensures in
+    let p = c .before .before .before .before .before .before .before .put-event .ensures in
+    let q = c .before .before .put-actions .ensures in
+    let few = takes-few (toldEvent (a .event) (a .listed .now)) (a .state) _ _ (c .before .before .before .before .before .before .before .before .before .before .before .before .take .result) t in
+    lists (toldEvent (a .event) (a .listed .now)) (a .state) (a .number) (a .written) _ _ _ _ _ _ _ _ refl t (λ k e. actions-are-writable (given k) (a .state) (state-fits (a .state) _ (c .before .before .before .before .before .before .before .before .before .before .before .before .before .before .before .before .good .0)) (call-fits (a .event) (a .listed .now) _ (c .before .before .before .before .before .before .before .before .before .before .before .before .before .before .before .before .good .1 .0) k e)) p q (let room = c .before .before .before .before .before .before .before .before .before .before .before .before .before .before .before .before .pre in omega (arith, p .within, q .within))
+
+pub list-event-spec : {M : Type 1} → statement M
+list-event-spec =
+    tie.close
+    (tie.spec
+    slice-aggregate-take
+    take-requires
+    put-event-requires
+    slice-aggregate-put-actions
+    put-actions-requires
+    same-length
+    returns)

@@ -1,0 +1,4 @@
+pub mod Run
+pub mod Promises
+pub mod Open
+pub mod Demands

@@ -1,0 +1,295 @@
+// A script run with an event budget (document 01, "Script and its listing"): each event is read again from its line, taken by its call and listed into lent
+// room. A run takes the lesser of its budget and of the events left, and no more than the room surely holds; refused events count.
+ghost use mathlib.Core.Path.{_≡_};
+ghost use Prim.Native.Nat.{_+_, _-_, _≤_};
+ghost use lib.Dec.{eqb};
+ghost use lib.ListN.{length};
+ghost use mathlib.Core.Bool.{false, cond};
+ghost use Rattle.events.specs.Events.{eventOf};
+ghost use Rattle.events.specs.Told.{toldEvent};
+ghost use Rattle.script.specs.Lines.{item};
+ghost use Rattle.run.specs.Run.{lesser, allowance};
+ghost use Rattle.records.specs.Numbers.{refusalNumber};
+ghost use Rattle.run.specs.Promises.{Runs, Lists, ListsBy, StepsBy};
+ghost use Rattle.run.specs.Open.{nowhere, OpensScript, refusalLine, lastLine};
+use events::Event;
+use records::LifecyclePolicy;
+use records::Refusal;
+use state::FederateCoordinationState;
+
+// A script's run: the state, the place of the next event's line, how many events the script has, and how many are left.
+pub struct Running {
+    pub state: FederateCoordinationState,
+    pub at: usize,
+    pub events: usize,
+    pub left: usize,
+}
+
+// A script opened: `Taken` and where its run begins; or why it was refused and, for 11, at which place.
+pub struct Opened {
+    pub refusal: Refusal,
+    pub place: usize,
+    pub start: Running,
+}
+
+// What a run came to: the run from there on, the number of events taken and of bytes written.
+pub struct Ran {
+    pub rest: Running,
+    pub taken: usize,
+    pub written: usize,
+}
+
+// An event taken by its call, and where its lines end.
+struct Listed {
+    state: FederateCoordinationState,
+    written: usize,
+}
+
+// One event taken, if there is one, and where its lines end.
+struct Stepped {
+    moved: bool,
+    state: FederateCoordinationState,
+    at: usize,
+    written: usize,
+}
+
+fn lesser(a: usize, b: usize) -> usize
+    ensures { λ r. ⌜ r ≡ lesser a b ⌝ }
+{
+    if a <= b {
+        return a;
+    }
+    b
+}
+
+fn allowance(budget: usize, left: usize, room: usize) -> usize
+    ensures { λ r. ⌜ r ≡ allowance budget left room ⌝ }
+{
+    lesser(budget, lesser(left, room / 5600))
+}
+
+fn difference(a: usize, b: usize) -> usize
+    ensures { λ r. ⌜ r ≡ a - b ⌝ }
+{
+    if a < b {
+        return 0;
+    }
+    a - b
+}
+
+// Takes the event by its call and lists it from `written` on.
+fn list_event(
+    state: FederateCoordinationState,
+    event: Event,
+    listed: &[u32],
+    number: u64,
+    out: &mut [u8],
+    written: usize,
+) -> Listed
+    requires { ⌜ written + 5600 ≤ length (now out) ⌝ }
+    ensures { λ r. ⌜ ListsBy (toldEvent event (now (listed .entry))) state number written (now (out .entry)) (now (out .exit)) r ⌝ }
+{
+    let mut room: [u8; 1904] = [0; 1904];
+    let called = take::take(state, event, listed, &mut room);
+    let reply = called.reply;
+    let next = called.state;
+    let refusal = reply.refusal;
+    let answer = reply.answer;
+    let told = listing::put_event(out, written, number, refusal, answer, reply.actions);
+    let after = listing::put_actions(out, told, &room, reply.actions);
+    Listed {
+        state: next,
+        written: after,
+    }
+}
+
+fn stays(state: FederateCoordinationState, at: usize, written: usize) -> Stepped
+    ensures { λ r. ⌜ r ≡ record { moved = false; state = state; at = at; written = written } ⌝ }
+{
+    Stepped {
+        moved: false,
+        state,
+        at,
+        written,
+    }
+}
+
+// The event at the place, taken and listed.
+fn step(
+    script: &[u8],
+    state: FederateCoordinationState,
+    at: usize,
+    number: u64,
+    out: &mut [u8],
+    written: usize,
+) -> Stepped
+    requires { ⌜ written + 5600 ≤ length (now out) ⌝ }
+    ensures { λ r. ⌜ StepsBy (item eventOf (now (script .entry)) at) state at number written (now (out .entry)) (now (out .exit)) r ⌝ }
+{
+    let end = script::end_of(script, at);
+    if script.len() <= end {
+        return stays(state, at, written);
+    }
+    let after = end + 1;
+    let line = script::line_at(script, at);
+    if !script::is_event(line) {
+        return stays(state, at, written);
+    }
+    let event = events::read_event(line);
+    let enclaves = events::enclaves(line);
+    let listed = list_event(state, event, &enclaves, number, out, written);
+    let next = listed.state;
+    Stepped {
+        moved: true,
+        state: next,
+        at: after,
+        written: listed.written,
+    }
+}
+
+fn came_to(
+    state: FederateCoordinationState,
+    at: usize,
+    events: usize,
+    left: usize,
+    taken: usize,
+    written: usize,
+) -> Ran
+    ensures { λ r. ⌜ r ≡ record { rest = record { state = state; at = at; events = events; left = left }; taken = taken; written = written } ⌝ }
+{
+    let rest = Running {
+        state,
+        at,
+        events,
+        left,
+    };
+    Ran {
+        rest,
+        taken,
+        written,
+    }
+}
+
+fn unopened(refusal: Refusal, place: usize) -> Opened
+    ensures { λ r. ⌜ r ≡ record { refusal = refusal; place = place; start = nowhere } ⌝ }
+{
+    let none: [u32; 0] = [];
+    let opened = opening::new(&none, LifecyclePolicy::KeepAlive, 0, 0);
+    let state = opened.state;
+    let start = Running {
+        state,
+        at: 0,
+        events: 0,
+        left: 0,
+    };
+    Opened {
+        refusal,
+        place,
+        start,
+    }
+}
+
+// The script that the bytes are, opened: refused 12, 11 with its place, then as the opening.
+pub fn open(bytes: &[u8]) -> Opened
+    ensures { λ r. ⌜ OpensScript (now (bytes .entry)) r ⌝ }
+{
+    let read = script::read_script(bytes);
+    let refusal = read.refusal;
+    if records::refusal_number(refusal) != 0 {
+        return unopened(refusal, read.place);
+    }
+    let participants = read.participants;
+    let policy = read.policy;
+    let count = read.count;
+    let listed: &[u32] = &participants;
+    let opened = opening::new(&listed[..count], policy, read.revision, read.generation);
+    let state = opened.state;
+    let outcome = opened.refusal;
+    let start = Running {
+        state,
+        at: read.events_at,
+        events: read.events,
+        left: read.events,
+    };
+    Opened {
+        refusal: outcome,
+        place: 0,
+        start,
+    }
+}
+
+// Lists why a script was refused, from byte 0 of the room, and answers how many bytes that took; none if the room has less than 160.
+pub fn list_refusal(refusal: Refusal, place: usize, out: &mut [u8]) -> usize
+    ensures { λ r. ⌜ Lists 160 (refusalLine (refusalNumber refusal) place) (now (out .entry)) (now (out .exit)) r ⌝ }
+{
+    if out.len() < 160 {
+        return 0;
+    }
+    if records::refusal_number(refusal) == 11 {
+        return listing::put_misplaced(out, 0, place);
+    }
+    listing::put_refused(out, 0, refusal)
+}
+
+// Lists the end of a run, from byte 0 of the room, and answers how many bytes that took; none if the room has less than 240.
+pub fn list_end(state: FederateCoordinationState, out: &mut [u8]) -> usize
+    ensures { λ r. ⌜ Lists 240 (lastLine state) (now (out .entry)) (now (out .exit)) r ⌝ }
+{
+    if out.len() < 240 {
+        return 0;
+    }
+    let revision = queries::revision(state);
+    let phase = queries::phase(state);
+    let generation = queries::generation(state);
+    let frontier = queries::completed_frontier(state);
+    let horizon = queries::grant_horizon(state);
+    let settled = queries::is_settled(state);
+    let reached = phase.answer;
+    let completed = frontier.answer;
+    let granted = horizon.answer;
+    listing::put_end(
+        out,
+        0,
+        revision.answer,
+        reached,
+        generation.answer,
+        completed,
+        granted,
+        settled.answer,
+    )
+}
+
+// What is left of a budget after so many events: nothing where none was taken, for then none is left to take.
+pub fn budget_left(budget: usize, taken: usize) -> usize
+    ensures { λ r. ⌜ r ≡ cond (eqb taken 0) 0 (budget - taken) ⌝ }
+{
+    if taken == 0 {
+        return 0;
+    }
+    difference(budget, taken)
+}
+
+// Runs at most `budget` events from where the run stands, and lists them from byte 0 of the room on.
+pub fn run(script: &[u8], from: Running, budget: usize, out: &mut [u8]) -> Ran
+    ensures { λ r. ⌜ Runs (now (script .entry)) from budget (now (out .entry)) (now (out .exit)) r ⌝ }
+{
+    let events = from.events;
+    let left = from.left;
+    let allowed = allowance(budget, left, out.len());
+    let before = difference(events, left);
+    let mut state = from.state;
+    let mut at = from.at;
+    let mut taken: usize = 0;
+    let mut written: usize = 0;
+    while taken < allowed {
+        let stepped = step(script, state, at, (before + taken + 1) as u64, out, written);
+        if !stepped.moved {
+            return came_to(state, at, events, left - taken, taken, written);
+        }
+        state = stepped.state;
+        at = stepped.at;
+        written = stepped.written;
+        taken += 1;
+    }
+    came_to(state, at, events, left - taken, taken, written)
+}
