@@ -215,8 +215,8 @@ fn unpublished<'a>(
     let mut flags = published;
     let mut i: usize = 0;
     while i < count {
-        let candidate = table::tag_at(seconds, nanoseconds, microsteps, i);
-        if is_grantable(flags[i], candidate, tag) {
+        let event = table::tag_at(seconds, nanoseconds, microsteps, i);
+        if is_grantable(flags[i], event, tag) {
             flags[i] = false;
         }
         i += 1;

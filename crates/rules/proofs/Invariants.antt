@@ -32,7 +32,7 @@ pub each-back {ℓ κ} : {A : Type ℓ} {B : Type κ} (P : A → Type 0) (Q : B 
 each-back P Q h f [] k = tt
 each-back P Q h f (x ∷ xs) k = (f x (k .0), each-back P Q h f xs (k .1))
 
-each-of : {A : Type 0} {P : A → Type 0} → ((x : A) → P x) → (xs : List A) → Each P xs
+pub each-of : {A : Type 0} {P : A → Type 0} → ((x : A) → P x) → (xs : List A) → Each P xs
 each-of f [] = tt
 each-of f (x ∷ xs) = (f x, each-of f xs)
 

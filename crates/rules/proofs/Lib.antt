@@ -9,3 +9,4 @@ pub mod Room
 pub mod Refusal
 pub mod Sound
 pub mod Actions
+pub mod Together

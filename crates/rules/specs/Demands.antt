@@ -3,7 +3,7 @@
 use mathlib.Core.Path.{_≡_}
 use mathlib.Core.Logic.{_⊎_}
 use mathlib.Core.Bool.{Bool, not, cond, _&&_}
-use mathlib.Core.List.{List, [], _∷_, _++_}
+use mathlib.Core.List.{List, [], _∷_, _++_, map}
 use Prim.Native.Nat.{ℕ, _+_, _*_, _≤_}
 use lib.Dec.{T, eqb}
 use lib.ListN.{length}
@@ -226,3 +226,23 @@ OpeningIsSound = (o : Opening) → T (isSound (start o))
 
 abbrev pub CallKeepsSound : Type 0
 CallKeepsSound = (g : Given) (s : State) → T (isSound s) → T (isSound (call g s .step .state))
+
+-- ---- 6. what the state held rests on: no call changes who takes part, and one tag, or none, is granted to all ("every enclave's granted tag is this
+-- ---- capped tag"; an input notice "drops .. all granted tags")
+
+abbrev pub enclavesOf : State → List ℕ
+enclavesOf s = map (λ p. p .index) (s .participants)
+
+-- with the participants as its argument it is the same type at two states that differ in other fields alone
+pub record Together (ps : List Participant) : Type 0 where
+  pub tag : OptionalTag
+  pub all : Each (λ p. p .granted ≡ tag) ps
+
+abbrev pub OpeningIsTogether : Type 0
+OpeningIsTogether = (o : Opening) → Together (start o .participants)
+
+abbrev pub CallKeepsTogether : Type 0
+CallKeepsTogether = (g : Given) (s : State) → Together (s .participants) → Together (call g s .step .state .participants)
+
+abbrev pub CallKeepsEnclaves : Type 0
+CallKeepsEnclaves = (g : Given) (s : State) → enclavesOf (call g s .step .state) ≡ enclavesOf s
