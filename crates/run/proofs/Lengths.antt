@@ -1,7 +1,7 @@
 -- An event's lines fit in 5,600 bytes: its own line and each action's line have at most 160, and a call has at most 34 actions. By the lengths of
 -- numbers and tags. Assumes nothing.
-use mathlib.Core.Path.{_≡_, refl, sym, ap, _∙_, subst⁻¹}
-use mathlib.Core.Bool.{Bool, true, false, not, cond, _&&_}
+use mathlib.Core.Path.{_≡_, refl, ap, _∙_, subst⁻¹}
+use mathlib.Core.Bool.{Bool, true, false, cond}
 use mathlib.Core.List.{List, [], _∷_, _++_}
 use Prim.Native.Nat.{ℕ, zero, suc, _+_, _*_, _/_, _≤_}
 use native.Mathlib.Omega.{arith}
@@ -16,11 +16,11 @@ use Rattle.numerals.specs.Numerals.{text}
 use Rattle.numerals.proofs.Splits.{by-order}
 use Rattle.printing.specs.Printing.{digitsOf, decimal, integer, tagText, optionalTagText}
 use Rattle.rules.specs.Model.{Answer, Silent, No, Yes, Call, CoordinationAction, Publish, AdvanceHorizon, Grant, Complete, CompletionProbe, Probe, Park, Recheck, Resume, Stop, Abort}
-use Rattle.rules.specs.Calls.{isSound, call, takeStep, refusal}
+use Rattle.rules.specs.Calls.{call, takeStep, refusal}
 use Rattle.rules.proofs.Room.{call-fits-room}
 use Rattle.rules.proofs.Sound.{sound-number}
 use Rattle.state.specs.declared.FederateCoordinationState.{FederateCoordinationState as Held}
-use Rattle.state.specs.View.{view, represents}
+use Rattle.state.specs.View.{view}
 use Rattle.calls.proofs.Refusals.{passes}
 use Rattle.take.proofs.Arms.{not-27}
 use Rattle.calls.specs.Called.{lent, refusalOf, actionsOf, answerOf}

@@ -1,3 +1,4 @@
+pub mod Follows
 pub mod Lengths
 pub mod Lists
 pub mod Opens

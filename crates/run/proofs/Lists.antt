@@ -1,6 +1,6 @@
 -- An event taken and listed: its line and the lines of the records that its call wrote are the event's lines. The records hold the call's actions, each
 -- of which can be written, so each reads back. Assumes nothing.
-use mathlib.Core.Path.{_≡_, refl, sym, ap, _∙_, subst}
+use mathlib.Core.Path.{_≡_, refl, ap, _∙_}
 use mathlib.Core.List.{List, _++_}
 use mathlib.Core.Option.{Option, none, some}
 use Prim.Native.Nat.{ℕ, _+_, _*_, _≤_}
@@ -23,7 +23,6 @@ use Rattle.listing.specs.Records.{recordLines}
 use Rattle.listing.proofs.Records.{record-lines}
 use Rattle.take.specs.Takes.{Takes, TakesCall}
 use Rattle.run.specs.Run.{given, eventLines}
-use Rattle.run.specs.declared.Listed.{Listed}
 use Rattle.run.specs.Promises.{ListsBy}
 use Rattle.run.proofs.Lengths.{actions-few}
 

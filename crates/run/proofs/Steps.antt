@@ -1,6 +1,6 @@
 -- One event at a place: where a line ends there and is an event, it is the item that a run takes; else there is none. Assumes nothing.
 use mathlib.Core.Path.{_≡_, refl, sym, ap, _∙_, subst}
-use mathlib.Core.Bool.{Bool, true, false}
+use mathlib.Core.Bool.{true, false}
 use mathlib.Core.List.{List}
 use mathlib.Core.Option.{Option, none, some}
 use Prim.Native.Nat.{ℕ, _+_, _<_, _≤_}
@@ -11,7 +11,7 @@ use Rattle.state.specs.declared.FederateCoordinationState.{FederateCoordination
 use Rattle.events.specs.Events.{eventOf}
 use Rattle.events.specs.declared.Event.{Event}
 use Rattle.events.specs.Told.{toldEvent, enclavesOf, isGiven}
-use Rattle.script.specs.Lines.{Reading, Bad, Good, lineAt, endOf, item}
+use Rattle.script.specs.Lines.{Bad, lineAt, endOf, item}
 use Rattle.script.proofs.Items.{item-unended, item-none, item-good}
 use Rattle.run.specs.declared.Listed.{Listed}
 use Rattle.run.specs.declared.Stepped.{Stepped}

@@ -1,12 +1,12 @@
 -- The turns of a run: what the run of the events left gives from here is what the whole run gives. An event's lines fit in 5,600 bytes, so those of the
 -- events left fit in the room left. Assumes nothing.
-use mathlib.Core.Path.{_≡_, refl, sym, ap, _∙_, subst}
-use mathlib.Core.Bool.{true, false}
+use mathlib.Core.Path.{_≡_, refl, sym, ap, _∙_}
+use mathlib.Core.Bool.{Bool, true, false, cond}
 use mathlib.Core.List.{List, [], _∷_, _++_}
 use Prim.Native.Nat.{ℕ, zero, suc, _+_, _-_, _*_, _/_, _≤_, _<_}
 use native.Mathlib.Omega.{arith}
-use native.Mathlib.Numerals.{add-one}
-use borrow.Author.Tests.{le-leb, lt-leb}
+use borrow.Author.Tests.{le-leb, lt-leb, eqb-false}
+use lib.Dec.{eqb}
 use lib.ListN.{length, length-append}
 use Rattle.bytes.specs.Runs.{putAt}
 use Rattle.bytes.proofs.Runs.{put-append, put-nil, length-put}
@@ -199,3 +199,12 @@ ended script p budget out₀ out s at taken written n before e f l none-left her
   where
     all-lines : runLines (before + 1) (callsFrom n script (p .at)) (p .state) ≡ runLines (nextNumber p) (callsFrom (allowance budget (p .left) (length out₀)) script (p .at)) (p .state)
     all-lines = ap (λ k. runLines (k + 1) (callsFrom n script (p .at)) (p .state)) f ∙ ap (λ m. runLines (nextNumber p) (callsFrom m script (p .at)) (p .state)) e
+
+-- ---- a budget falls with every run
+
+pub budget-falls : (budget taken left : ℕ) → left ≡ cond (eqb taken 0) 0 (budget - taken) → 0 < budget → left < budget
+budget-falls budget taken left e h = go (eqb taken 0) refl e
+  where
+    go : (b : Bool) → eqb taken 0 ≡ b → left ≡ cond b 0 (budget - taken) → left < budget
+    go true q f = omega (arith, f)
+    go false q f = omega (arith, f, eqb-false taken 0 q)

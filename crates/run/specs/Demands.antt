@@ -3,7 +3,7 @@ use Prim.Native.Nat.{ℕ, _+_, _*_, _≤_}
 use mathlib.Core.Path.{_≡_}
 use mathlib.Core.List.{List, _++_, map}
 use lib.Dec.{T}
-use lib.ListN.{length, take, drop}
+use lib.ListN.{length, take}
 use Rattle.rules.specs.Model.{Call}
 use Rattle.rules.specs.Calls.{isSound, runCalls}
 use Rattle.state.specs.declared.FederateCoordinationState.{FederateCoordinationState as Held}

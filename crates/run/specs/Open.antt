@@ -6,7 +6,7 @@ use mathlib.Core.List.{List, _++_}
 use lib.Dec.{eqb, ltb}
 use lib.ListN.{length, take}
 use Rattle.records.specs.Numbers.{refusalNumber}
-use Rattle.rules.specs.Model.{NoTag, OptionalTag, Active, State}
+use Rattle.rules.specs.Model.{NoTag, Active}
 use Rattle.rules.specs.Opening.{openingRefusal}
 use Rattle.rules.specs.Queries.{isSettled}
 use Rattle.state.specs.declared.FederateCoordinationState.{FederateCoordinationState as Held}

@@ -4,19 +4,13 @@ use Rattle.run.specs.Run.{lesser, allowance}
 use borrow.Author.Needs.{needs}
 use Rattle.run.proofs.allowance.Statement.{statement}
 use Rattle.run.proofs.allowance.Tie as tie
-use Rattle.run.proofs.allowance.Reads as reads
-use Rattle.run.proofs.allowance.Lts as lts
-use Rattle.run.proofs.lesser.Reads as lesser-reads
 
--- src/lib.rt:47:20
 lesser-requires : tie.Need-lesser-requires
 lesser-requires c κs = search needs
 
--- src/lib.rt:47:5
 lesser-requires-2 : tie.Need-lesser-requires-2
 lesser-requires-2 c κs = search needs
 
--- src/lib.rt:44:1
 returns : tie.Need-returns
 unfolding allowance
 returns c = c .lesser2 .ensures ∙ ap (lesser (c .before .before .args .budget)) (c .before .lesser .ensures)

@@ -10,29 +10,19 @@ use Rattle.run.proofs.Widths.{call-fits}
 use borrow.Author.Needs.{needs}
 use Rattle.run.proofs.list_event.Statement.{statement}
 use Rattle.run.proofs.list_event.Tie as tie
-use Rattle.run.proofs.list_event.Reads as reads
-use Rattle.run.proofs.list_event.Lts as lts
-use Rattle.listing.proofs.put_actions.Reads as put-actions-reads
-use Rattle.listing.proofs.put_event.Reads as put-event-reads
-use Rattle.take.proofs.take.Reads as take-reads
 
--- src/lib.rt:88:51
 slice-aggregate-take : tie.Need-slice-aggregate-take
 slice-aggregate-take c = search needs
 
--- src/lib.rt:88:9
 take-requires : tie.Need-take-requires
 take-requires c κs = search needs
 
--- src/lib.rt:93:9
 put-event-requires : tie.Need-put-event-requires
 put-event-requires c κs = search needs
 
--- src/lib.rt:94:49
 slice-aggregate-put-actions : tie.Need-slice-aggregate-put-actions
 slice-aggregate-put-actions c = search needs
 
--- src/lib.rt:94:9
 put-actions-requires : tie.Need-put-actions-requires
 put-actions-requires c κs =
     let a = c .before .before .before .before .before .before .before .before .before .before .before .before .before .args in
@@ -41,11 +31,9 @@ put-actions-requires c κs =
     let room = c .before .before .before .before .before .before .before .before .before .before .before .before .before .pre in
     omega (arith, length-kept (c .before .before .before .before .put-event .ensures) room)
 
--- src/lib.rt:76:1
 same-length : tie.Need-same-length
 same-length c = search needs
 
--- src/lib.rt:76:1
 returns : tie.Need-returns
 returns c =
     let a = c .before .before .before .before .before .before .before .before .before .before .before .before .before .before .before .before .args in

@@ -1,4 +1,5 @@
-use mathlib.Core.Path.{_≡_, refl, sym, ap, _∙_}
+-- `run::run` takes events one at a time; what is left of the run from here is what the whole run gives. Assumes nothing.
+use mathlib.Core.Path.{refl}
 use Prim.Native.Nat.{_+_, _-_, _^_, _<_}
 use native.Mathlib.Omega.{arith}
 use borrow.Author.Needs.{needs}
@@ -7,12 +8,6 @@ use borrow.Author.Tests.{not-true, not-false}
 use Rattle.run.proofs.Turns.{Left, begins, turns-on, turns-not, all-taken, all-here, allowed-left, allowed-fits, ended}
 use Rattle.run.proofs.run.Statement.{statement}
 use Rattle.run.proofs.run.Tie as tie
-use Rattle.run.proofs.run.Reads as reads
-use Rattle.run.proofs.run.Lts as lts
-use Rattle.run.proofs.allowance.Reads as allowance-reads
-use Rattle.run.proofs.came_to.Reads as came-to-reads
-use Rattle.run.proofs.difference.Reads as difference-reads
-use Rattle.run.proofs.step.Reads as step-reads
 
 abbrev Inv-loop : tie.InvT-loop
 Inv-loop script budget out₀ events left allowed before state₀ at₀ taken₀ written₀ out state at taken written =
@@ -30,43 +25,33 @@ small c =
     let taken = c .loop-test .taken in
     omega (arith, good .0 .1, good .1 .0 .1, c .before .before .before .difference .ensures)
 
--- src/lib.rt:103:9
 allowance-requires : tie.Need-allowance-requires Inv-loop μ-loop
 allowance-requires c κs = search needs
 
--- src/lib.rt:104:9
 difference-requires : tie.Need-difference-requires Inv-loop μ-loop
 difference-requires c κs = search needs
 
--- src/lib.rt:109:5
 loop-holds : tie.Need-loop-holds Inv-loop μ-loop
 loop-holds c = let a = c .before .before .before .before .before .args in begins _ _ _ _ _ _ (allowed-fits (a .budget) (a .from .left) (length (a .out .now)) _ (c .before .before .allowance .ensures))
 
--- src/lib.rt:110:48
 add-step : tie.Need-add-step Inv-loop μ-loop
 add-step c = record { fits = let h = small c in omega arith }
 
--- src/lib.rt:110:48
 add-step-2 : tie.Need-add-step-2 Inv-loop μ-loop
 add-step-2 c = record { fits = let h = small c in omega arith }
 
--- src/lib.rt:110:13
 step-requires : tie.Need-step-requires Inv-loop μ-loop
 step-requires c κs = search needs
 
--- src/lib.rt:112:47
 sub-came-to : tie.Need-sub-came-to Inv-loop μ-loop
 sub-came-to c = let a = c .before .before .before .before .before .before .before .before .before .before .before .before .before .args in let h = allowed-left (a .budget) (a .from .left) (length (a .out .now)) _ (c .before .before .before .before .before .before .before .before .before .before .allowance .ensures) in let t = c .before .before .before .before .before .before .loop-test .taken in omega arith
 
--- src/lib.rt:112:13
 came-to-requires : tie.Need-came-to-requires Inv-loop μ-loop
 came-to-requires c κs = search needs
 
--- src/lib.rt:112:13
 same-length : tie.Need-same-length Inv-loop μ-loop
 same-length c = search needs
 
--- src/lib.rt:112:13
 returns : tie.Need-returns Inv-loop μ-loop
 returns c =
     let a = c .before .before .before .before .before .before .before .before .before .before .before .before .before .before .args in
@@ -75,31 +60,24 @@ returns c =
     let t = turns-not _ _ _ (l .state) (l .at) (l .out) _ _ _ _ _ _ (c .before .before .before .before .before .before .before .loop-test .taken) (c .before .before .before .before .before .step .result) _ refl (c .before .before .before .before .before .step .ensures) (not-true _ (c .before .if1 .taken)) in
     rw (t .2) (ended (a .script .now) (a .from) (a .budget) (a .out .now) (l .out) (l .state) (l .at) (l .taken) (l .written) n (c .before .before .before .before .before .before .before .before .before .before .difference .result) (c .before .before .before .before .before .before .before .before .before .before .before .allowance .ensures) (c .before .before .before .before .before .before .before .before .before .before .difference .ensures) (l .inv) (t .0) (t .1) _ (c .came-to .ensures))
 
--- src/lib.rt:117:9
 add-taken : tie.Need-add-taken Inv-loop μ-loop
 add-taken c = search needs
 
--- src/lib.rt:109:5
 loop-less : tie.Need-loop-less Inv-loop μ-loop
 loop-less c = search needs
 
--- src/lib.rt:109:5
 loop-again : tie.Need-loop-again Inv-loop μ-loop
 loop-again c = turns-on _ _ _ _ _ _ _ _ _ _ _ _ (c .before .before .before .before .before .before .before .loop-test .taken) (c .before .before .before .before .before .step .result) (c .before .before .before .before .before .before .before .before .loop .inv) _ refl (c .before .before .before .before .before .step .ensures) (not-false _ (c .before .if1 .left))
 
--- src/lib.rt:119:32
 sub-came-to-2 : tie.Need-sub-came-to-2 Inv-loop μ-loop
 sub-came-to-2 c = let a = c .before .before .before .before .before .before .before .args in let h = allowed-left (a .budget) (a .from .left) (length (a .out .now)) _ (c .before .before .before .before .allowance .ensures) in let t = c .before .loop .inv .few in omega arith
 
--- src/lib.rt:119:5
 came-to-requires-2 : tie.Need-came-to-requires-2 Inv-loop μ-loop
 came-to-requires-2 c κs = search needs
 
--- src/lib.rt:98:1
 same-length-2 : tie.Need-same-length-2 Inv-loop μ-loop
 same-length-2 c = search needs
 
--- src/lib.rt:98:1
 returns-2 : tie.Need-returns-2 Inv-loop μ-loop
 returns-2 c =
     let a = c .before .before .before .before .before .before .before .before .args in

@@ -7,73 +7,51 @@ use Rattle.run.proofs.Steps.{unended, no-event, an-event}
 use borrow.Author.Needs.{needs}
 use Rattle.run.proofs.step.Statement.{statement}
 use Rattle.run.proofs.step.Tie as tie
-use Rattle.run.proofs.step.Reads as reads
-use Rattle.run.proofs.step.Lts as lts
-use Rattle.events.proofs.enclaves.Reads as enclaves-reads
-use Rattle.events.proofs.read_event.Reads as read-event-reads
-use Rattle.run.proofs.list_event.Reads as list-event-reads
-use Rattle.run.proofs.stays.Reads as stays-reads
-use Rattle.script.proofs.end_of.Reads as end-of-reads
-use Rattle.script.proofs.is_event.Reads as is-event-reads
-use Rattle.script.proofs.line_at.Reads as line-at-reads
 
--- src/lib.rt:128:9
 end-of-requires : tie.Need-end-of-requires
 end-of-requires c κs = search needs
 
--- src/lib.rt:130:9
 stays-requires : tie.Need-stays-requires
 stays-requires c κs = search needs
 
--- src/lib.rt:130:9
 returns : tie.Need-returns
 returns c =
     let a = c .before .before .before .before .before .args in
     unended (a .script .now) (a .at) (a .state) (a .number) (a .written) (a .out .now) _ (c .stays .ensures) _ (c .before .before .end-of .ensures) (c .before .if1 .taken)
 
--- src/lib.rt:132:9
 add-after : tie.Need-add-after
 add-after c = search needs
 
 line-at-requires : tie.Need-line-at-requires
 line-at-requires c κs = search needs
 
--- src/lib.rt:133:9
 is-event-requires : tie.Need-is-event-requires
 is-event-requires c κs = search needs
 
--- src/lib.rt:134:9
 stays-requires-2 : tie.Need-stays-requires-2
 stays-requires-2 c κs = search needs
 
--- src/lib.rt:134:9
 returns-2 : tie.Need-returns-2
 returns-2 c =
     let a = c .before .before .before .before .before .before .before .before .args in
     no-event (a .script .now) (a .at) (a .state) (a .number) (a .written) (a .out .now) _ (c .stays2 .ensures)
     (ap (λ l. isGiven (eventOf l)) (sym (c .before .before .before .line-at .ensures)) ∙ sym (c .before .before .is-event .ensures) ∙ not-true _ (c .before .if2 .taken))
 
--- src/lib.rt:136:9
 read-event-requires : tie.Need-read-event-requires
 read-event-requires c κs = search needs
 
--- src/lib.rt:137:20
 enclaves-requires : tie.Need-enclaves-requires
 enclaves-requires c κs = search needs
 
--- src/lib.rt:138:43
 slice-aggregate-list-event : tie.Need-slice-aggregate-list-event
 slice-aggregate-list-event c = search needs
 
--- src/lib.rt:138:9
 list-event-requires : tie.Need-list-event-requires
 list-event-requires c κs = search needs
 
--- src/lib.rt:117:1
 same-length : tie.Need-same-length
 same-length c = search needs
 
--- src/lib.rt:117:1
 returns-3 : tie.Need-returns-3
 returns-3 c =
     let a = c .before .before .before .before .before .before .before .before .before .before .before .before .before .before .before .args in
