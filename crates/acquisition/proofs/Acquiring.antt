@@ -24,8 +24,8 @@ use Rattle.calls.specs.Called.{lent, refusalOf, replied}
 use Rattle.calls.proofs.Refusals.{refusal-0}
 use Rattle.calls.proofs.Standing.{Standing}
 use Rattle.calls.proofs.Ends.{Ends, roomy, ends-taken, ends-quiet, actions-fit}
-use Rattle.acquisition.specs.declared.Acquired.{Acquired}
-use Rattle.acquisition.specs.Acquire.{grantsIn, acquiredIn, Unpublished, Acquires}
+use Rattle.grants.specs.declared.Acquired.{Acquired}
+use Rattle.grants.specs.Acquire.{grantsIn, acquiredIn, Unpublished, Acquires}
 
 -- neither 27, 8, 7 nor any later number
 pub acquire-taken : (n r : ℕ) (t : Tag) (s : Held) → Standing s → 56 * (s .count + 2) ≤ n → isProper t ≡ true

@@ -1,4 +1,2 @@
-pub mod Turns
-pub mod Decision
 pub mod Acquiring
 pub mod Repeats

@@ -1,1 +1,1 @@
-pub mod Acquire
+pub mod Pending

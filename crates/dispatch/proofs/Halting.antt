@@ -7,7 +7,6 @@ use Prim.Native.Nat.{ℕ}
 use native.Mathlib.Omega.{arith}
 use lib.Dec.{T, eqb}
 use borrow.Author.Tests.{ne-eqb}
-use Rattle.tags.specs.Tags.{_≤ₜ_}
 use Rattle.rules.specs.Model.{Abort, Enclave, NoEnclave, OptionalEnclave, Participant, Stop}
 use Rattle.rules.specs.Set.{withFirstFailure, withParticipants}
 use Rattle.rules.specs.Walk.{emit}
@@ -17,23 +16,22 @@ use Rattle.state.specs.declared.Coordination.{Coordination}
 use Rattle.state.specs.declared.Parts.{Parts}
 use Rattle.state.specs.declared.Decided.{Decided}
 use Rattle.state.specs.Cells.{enclaveIf, isZeroUnless}
-use Rattle.state.specs.View.{enclaveIn, isNamed, neatCoordination, view}
-use Rattle.state.specs.Parts.{Seated, partsOf}
+use Rattle.state.specs.View.{enclaveIn, isNamed, view}
+use Rattle.state.specs.Parts.{Seated, partsOf, withoutPending}
 use Rattle.state.specs.Decides.{Decides, Good, conclusion, halfway, neatParts}
-use Rattle.state.proofs.Neat.{coordination-parts, coordination-whole}
+use Rattle.state.proofs.Neat.{neat-without-pending}
 use Rattle.state.proofs.Halves.{Goes, decides-by, goes-nothing, rows-kept, saying, stopped-is}
 use Rattle.publication.proofs.Neat.{parts-of, parts-whole}
-use Rattle.dispatch.specs.Halt.{haltedOf}
 
 -- the enclave's cells and the completion kept
 abbrev halting : Parts → Coordination → Bool → ℕ → Parts
 halting p c b n = record { row = p .row; coordination = c; completion = p .completion; failed = b; «first_failure» = n }
 
 abbrev stopping : Parts → Decided
-stopping p = saying 10 (halting p (haltedOf (p .coordination)) (p .failed) (p .«first_failure»))
+stopping p = saying 10 (halting p (withoutPending 6 (p .coordination)) (p .failed) (p .«first_failure»))
 
 abbrev failing : OptionalEnclave → Parts → Decided
-failing m p = saying 11 (halting p (haltedOf (p .coordination)) (isNamed m) (enclaveIn m))
+failing m p = saying 11 (halting p (withoutPending 6 (p .coordination)) (isNamed m) (enclaveIn m))
 
 enclave-back : (m : OptionalEnclave) → enclaveIf (isNamed m) (enclaveIn m) ≡ m
 enclave-back NoEnclave = refl
@@ -67,11 +65,6 @@ module _ (e : ℕ) (s : Held) (i : ℕ) (g : Good s) (d : Seated s e i) where
 
 -- ---- of the parts
 
-neat-halted : (c : Coordination) → T (neatCoordination c) → T (neatCoordination (haltedOf c))
-unfolding _≤ₜ_
-neat-halted c h =
-    coordination-whole (haltedOf c) (record { phase = omega arith; authorization = coordination-parts c h .authorization; publication = tt })
-
 neat-named : (m : OptionalEnclave) → T (isZeroUnless (isNamed m) (enclaveIn m))
 neat-named NoEnclave = tt
 neat-named (Enclave e) = tt
@@ -83,14 +76,14 @@ module _ (p : Parts) (h : p .coordination .phase ≡ 6) (e : ℕ) where
   pub fail-stopped : (m : OptionalEnclave) → Decides (failOf m) e p (saying 0 p)
   fail-stopped m = decides-by (failOf m) e (λ z. z .coordination .phase ≡ 6) (saying 0) (λ s i g d. fail-nothing e s i g d m) p h
 
-module _ (p : Parts) (c : Coordination) (u : c ≡ haltedOf (p .coordination)) where
+module _ (p : Parts) (c : Coordination) (u : c ≡ withoutPending 6 (p .coordination)) where
   pub stop-running : (p .coordination .phase ≡ 6 → ⊥) → (e : ℕ) → Decides stopOf e p (saying 10 (halting p c (p .failed) (p .«first_failure»)))
   stop-running h e = rw u (decides-by stopOf e (λ z. z .coordination .phase ≡ 6 → ⊥) stopping (stop-step e) p h)
 
   pub neat-stopping : T (neatParts p) → T (neatParts (halting p c (p .failed) (p .«first_failure»)))
   neat-stopping h =
       let v = parts-of p h in
-      let halts = neat-halted (p .coordination) (v .coordination) in
+      let halts = neat-without-pending (p .coordination) 6 (omega arith) (v .coordination) in
       rw u (parts-whole (stopping p .parts) (record { row = v .row; coordination = halts; completion = v .completion; failure = v .failure }))
 
   pub fail-running : (m : OptionalEnclave) → (p .coordination .phase ≡ 6 → ⊥) → (e : ℕ) → Decides (failOf m) e p (saying 11 (halting p c (isNamed m) (enclaveIn m)))
@@ -100,5 +93,5 @@ module _ (p : Parts) (c : Coordination) (u : c ≡ haltedOf (p .coordination)) w
   pub neat-failing : (m : OptionalEnclave) → T (neatParts p) → T (neatParts (halting p c (isNamed m) (enclaveIn m)))
   neat-failing m h =
       let v = parts-of p h in
-      let halts = neat-halted (p .coordination) (v .coordination) in
+      let halts = neat-without-pending (p .coordination) 6 (omega arith) (v .coordination) in
       rw u (parts-whole (failing m p .parts) (record { row = v .row; coordination = halts; completion = v .completion; failure = neat-named m }))

@@ -1,3 +1,2 @@
-pub mod Halt
 pub mod Messages
 pub mod Ways

@@ -12,14 +12,12 @@ ghost use Rattle.state.specs.declared.FederateCoordinationState.{FederateCoordi
 ghost use Rattle.state.specs.View.{represents};
 ghost use Rattle.state.specs.Decides.{Decides, neatParts};
 ghost use Rattle.dispatch.specs.Messages.{callOf, flatOf, Names, enclaveOf, Has, Concludes};
-ghost use Rattle.dispatch.specs.Halt.{haltedOf};
 ghost use Rattle.dispatch.specs.Ways.{afterPublication, afterCompletion};
 use completion::Least;
 use publication::Announced;
 use records::EnclaveIndex;
 use records::OptionalEnclave;
 use records::SchedulerMessage;
-use state::ABSENT;
 use state::Completion;
 use state::Coordination;
 use state::Decided;
@@ -115,22 +113,6 @@ pub fn flat_of(message: SchedulerMessage) -> Flat
     }
 }
 
-// Phase Stopped, and no publication pending.
-fn halted(c: Coordination) -> Coordination
-    ensures { λ r. ⌜ r ≡ haltedOf c ⌝ }
-{
-    Coordination {
-        revision: c.revision,
-        phase: 6,
-        authorized: c.authorized,
-        idle_authorization: c.idle_authorization,
-        pending: false,
-        pending_revision: 0,
-        pending_next_event: ABSENT,
-        pending_grant_horizon: ABSENT,
-    }
-}
-
 // ParticipantStopped, and `stop` of the rule that it shares.
 pub fn participant_stopped(parts: Parts) -> Decided
     ensures step { λ r. ⌜ ((e : ℕ) → Decides stopOf e parts r) ⌝ }
@@ -141,7 +123,7 @@ pub fn participant_stopped(parts: Parts) -> Decided
         return publication::says(parts, 0);
     }
     let mut next = parts;
-    next.coordination = halted(c);
+    next.coordination = state::without_pending(c, 6);
     publication::says(next, 10)
 }
 
@@ -155,7 +137,7 @@ pub fn fail(parts: Parts, enclave: OptionalEnclave) -> Decided
         return publication::says(parts, 0);
     }
     let mut next = parts;
-    next.coordination = halted(c);
+    next.coordination = state::without_pending(c, 6);
     match enclave {
         OptionalEnclave::NoEnclave => {
             next.failed = false;

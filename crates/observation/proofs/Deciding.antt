@@ -6,22 +6,20 @@ use Prim.Native.Nat.{ℕ, _≤_}
 use native.Mathlib.Omega.{arith}
 use lib.Dec.{T, eqb}
 use borrow.Author.Tests.{eq-eqb, ne-eqb}
-use Rattle.tags.specs.Tags.{_≡ₜ_}
 use Rattle.records.specs.Numbers.{phaseNumber, nextRevision}
-use Rattle.rules.specs.Model.{NoTag, CoordinationPhase, Stopped, AwaitingIdleConfirmation, Probe, Park, Recheck, Stop, Probed, HasParked, Rechecked, State, Step}
+use Rattle.rules.specs.Model.{CoordinationPhase, Stopped, AwaitingIdleConfirmation, Probe, Park, Recheck, Stop, Probed, HasParked, Rechecked, State, Step}
 use Rattle.rules.specs.Walk.{is, isNumber}
 use Rattle.rules.specs.Stop.{stopOf}
 use Rattle.rules.specs.Observation.{agreed, idleConfirmationOf, lacksAuthorization, awaits}
-use Rattle.rules.proofs.Invariants.{and-intro}
 use Rattle.state.specs.declared.FederateCoordinationState.{FederateCoordinationState as Held}
 use Rattle.state.specs.declared.Coordination.{Coordination}
 use Rattle.state.specs.Cells.{absent, numberIf}
 use Rattle.state.specs.View.{view, represents, neatCoordination}
-use Rattle.state.proofs.Rows.{neat-cell}
-use Rattle.state.proofs.Neat.{coordination-parts, coordination-whole, neat-coordination, phase-bound, policy-bound}
+use Rattle.state.specs.Parts.{withoutPending}
+use Rattle.state.proofs.Neat.{coordination-parts, coordination-whole, neat-coordination, neat-without-pending, no-publication, phase-bound, policy-bound}
 use Rattle.observation.specs.declared.Said.the-variants.{Nothing, Says}
 use Rattle.observation.specs.declared.Moved.{Moved}
-use Rattle.observation.specs.Moves.{Moves, inPhase, withoutPending}
+use Rattle.observation.specs.Moves.{Moves, inPhase}
 use Rattle.state.proofs.Round.{phase-number}
 use Rattle.observation.proofs.Numbers.{coordinated-numbered}
 
@@ -44,13 +42,6 @@ neat-in-phase : (c : Coordination) (k : ℕ) → k ≤ 6 → T (neatCoordination
 neat-in-phase c k h n =
     let v = coordination-parts c n in
     coordination-whole (inPhase k c) (record { phase = h; authorization = v .authorization; publication = v .publication })
-
-no-publication : T (absent ≡ₜ absent && absent ≡ₜ absent)
-no-publication = let m : T (absent ≡ₜ absent) = neat-cell NoTag tt in and-intro (absent ≡ₜ absent) (absent ≡ₜ absent) m m
-
-neat-without-pending : (c : Coordination) (k : ℕ) → k ≤ 6 → T (neatCoordination c) → T (neatCoordination (withoutPending k c))
-neat-without-pending c k h n =
-    coordination-whole (withoutPending k c) (record { phase = h; authorization = coordination-parts c n .authorization; publication = no-publication })
 
 neat-probing : (n : ℕ) → T (neatCoordination (probing n))
 neat-probing n = coordination-whole (probing n) (record { phase = omega arith; authorization = tt; publication = no-publication })

@@ -1,13 +1,12 @@
 -- What the functions that decide an observation, an idle confirmation or a stop promise, on the numbers that the state holds. Assumes nothing.
 use mathlib.Core.Path.{_≡_}
-use mathlib.Core.Bool.{Bool, false, not, cond, _||_}
+use mathlib.Core.Bool.{Bool, not, cond, _||_}
 use mathlib.Core.List.{List, [], _∷_}
 use Prim.Native.Nat.{ℕ}
 use lib.Dec.{T, eqb}
 use Rattle.rules.specs.Model.{Verdict, Counts, Ignored, Refused, CoordinationAction, State, Step}
 use Rattle.state.specs.declared.FederateCoordinationState.{FederateCoordinationState as Held}
 use Rattle.state.specs.declared.Coordination.{Coordination}
-use Rattle.state.specs.Cells.{absent}
 use Rattle.state.specs.View.{view, neatCoordination}
 use Rattle.state.specs.Parts.{withCoordination}
 use Rattle.observation.specs.declared.Said.{Said}
@@ -32,19 +31,6 @@ inPhase phase c = record {
   «pending_revision» = c .«pending_revision»;
   «pending_next_event» = c .«pending_next_event»;
   «pending_grant_horizon» = c .«pending_grant_horizon»;
-}
-
--- the phase, and "pending publication cleared"
-abbrev pub withoutPending : ℕ → Coordination → Coordination
-withoutPending phase c = record {
-  revision = c .revision;
-  phase = phase;
-  authorized = c .authorized;
-  «idle_authorization» = c .«idle_authorization»;
-  pending = false;
-  «pending_revision» = 0;
-  «pending_next_event» = absent;
-  «pending_grant_horizon» = absent;
 }
 
 abbrev pub sayings : Said → List CoordinationAction

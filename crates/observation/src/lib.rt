@@ -19,7 +19,7 @@ ghost use Rattle.state.specs.View.{represents};
 ghost use Rattle.state.specs.Walk.{allOf};
 ghost use Rattle.calls.specs.Called.{Promised, lent, actionsOf};
 ghost use Rattle.observation.specs.declared.Said.the-variants.{Nothing};
-ghost use Rattle.observation.specs.Moves.{Moves, sayings, unheardBy, verdictNumbered, withoutPending, inPhase};
+ghost use Rattle.observation.specs.Moves.{Moves, sayings, unheardBy, verdictNumbered, inPhase};
 use calls::Called;
 use records::Answer;
 use records::CoordinationAction;
@@ -29,7 +29,6 @@ use records::EnclaveIndex;
 use records::Observation;
 use records::Refusal;
 use records::Verdict;
-use state::ABSENT;
 use state::Coordination;
 use state::FederateCoordinationState;
 
@@ -141,22 +140,6 @@ fn all_observed(observation: &[u8; 32], count: usize, cell: u8) -> bool
     true
 }
 
-// The phase set and the pending publication cleared.
-fn without_pending(c: Coordination, phase: u8) -> Coordination
-    ensures { λ r. ⌜ r ≡ withoutPending phase c ⌝ }
-{
-    Coordination {
-        revision: c.revision,
-        phase,
-        authorized: c.authorized,
-        idle_authorization: c.idle_authorization,
-        pending: false,
-        pending_revision: 0,
-        pending_next_event: ABSENT,
-        pending_grant_horizon: ABSENT,
-    }
-}
-
 fn is_authorized(c: Coordination) -> bool
     ensures { λ r. ⌜ r ≡ isNumber (numberIf (c .authorized) (c .«idle_authorization»)) (c .revision) ⌝ }
 {
@@ -199,7 +182,7 @@ fn stopped(c: Coordination) -> Moved
     if c.phase == 6 {
         return unmoved(c);
     }
-    let coordination = without_pending(c, 6);
+    let coordination = state::without_pending(c, 6);
     let said = Said::Says(CoordinationAction::Stop);
     Moved { coordination, said }
 }
@@ -239,7 +222,7 @@ fn confirmed(c: Coordination, revision: CoordinationRevision) -> Moved
         return unmoved(c);
     }
     let next = records::next(c.revision);
-    let mut coordination = without_pending(c, 1);
+    let mut coordination = state::without_pending(c, 1);
     coordination.revision = next;
     coordination.authorized = true;
     coordination.idle_authorization = next;

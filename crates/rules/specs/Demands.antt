@@ -4,14 +4,14 @@ use mathlib.Core.Path.{_≡_}
 use mathlib.Core.Logic.{_⊎_}
 use mathlib.Core.Bool.{Bool, not, cond, _&&_}
 use mathlib.Core.List.{List, [], _∷_, _++_, map}
-use Prim.Native.Nat.{ℕ, _+_, _*_, _≤_}
+use Prim.Native.Nat.{ℕ, _*_, _≤_}
 use lib.Dec.{T, eqb}
 use lib.ListN.{length}
 use Rattle.tags.specs.Tags.{isBelow, hasReached, atOrBelow}
 use Rattle.rules.specs.Model.{Tag, OptionalTag, NoTag, At, OptionalNumber, NoNumber, Number, LifecyclePolicy, Observation, Participant, CoordinationAction, Publish, AdvanceHorizon, Grant, Complete, CompletionProbe, Probe, Park, Recheck, Resume, Stop, Abort, State, Step, Call, Given, observed, acquire, observe}
 use Rattle.rules.specs.Walk.{quiet}
 use Rattle.rules.specs.Opening.{openingRefusal, opened}
-use Rattle.rules.specs.Completion.{completeOf, hasAnswered}
+use Rattle.rules.specs.Completion.{completeOf}
 use Rattle.rules.specs.Calls.{isTaken, isSound, refusal, call, roomFor, runCalls}
 
 -- P of every element

@@ -11,7 +11,7 @@ use lib.ListN.{length, getD, set}
 use lib.Seq.{getD-set-other}
 use borrow.Author.Tests.{eqb-true, eqb-false}
 use Rattle.tags.specs.Tags.{_≡ₜ_}
-use Rattle.rules.specs.Model.{Tag}
+use Rattle.rules.specs.Model.{Tag, NoTag}
 use Rattle.rules.specs.Calls.{isSound}
 use Rattle.rules.proofs.Lists.{and-left, and-right}
 use Rattle.rules.proofs.Invariants.{and-intro}
@@ -24,9 +24,9 @@ use Rattle.state.specs.declared.Parts.{Parts}
 use Rattle.state.specs.Walk.{allOf}
 use Rattle.state.specs.Cells.{absent, isAbsent, isNeat, isZeroUnless}
 use Rattle.state.specs.View.{tagAt, view, neatAt, neatCoordination, neatCompletion, neatGate, represents}
-use Rattle.state.specs.Parts.{Sized, rebuilt, cleared, withCoordination, withCompletion, withGate}
+use Rattle.state.specs.Parts.{Sized, rebuilt, cleared, withoutPending, withCoordination, withCompletion, withGate}
 use Rattle.state.specs.Decides.{neatRow, neatParts}
-use Rattle.state.proofs.Rows.{length-rows, cell-set-same, cleared-within, rebuilt-tag-cases}
+use Rattle.state.proofs.Rows.{length-rows, cell-set-same, cleared-within, rebuilt-tag-cases, neat-cell}
 
 and-parts : (a b : Bool) → T (a && b) ↔ (T a × T b)
 and-parts a b = (λ h. (and-left a b h, and-right a b h), λ h. and-intro a b (h .0) (h .1))
@@ -79,6 +79,13 @@ coordination-parts c h = let r = simp and-parts at h in record { phase = leb→l
 
 pub coordination-whole : (c : Coordination) → NeatCoordination c → T (neatCoordination c)
 coordination-whole c v = simp and-parts ((le→leb (c .phase) 6 (v .phase), v .authorization), v .publication)
+
+pub no-publication : T (absent ≡ₜ absent && absent ≡ₜ absent)
+no-publication = let m : T (absent ≡ₜ absent) = neat-cell NoTag tt in and-intro (absent ≡ₜ absent) (absent ≡ₜ absent) m m
+
+pub neat-without-pending : (c : Coordination) (k : ℕ) → k ≤ 6 → T (neatCoordination c) → T (neatCoordination (withoutPending k c))
+neat-without-pending c k h n =
+    coordination-whole (withoutPending k c) (record { phase = h; authorization = coordination-parts c n .authorization; publication = no-publication })
 
 pub record NeatCompletion (c : Completion) : Type 0 where
   pub frontier : T (isNeat (c .«completed_frontier»))

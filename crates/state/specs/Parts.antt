@@ -12,7 +12,7 @@ use Rattle.state.specs.declared.Completion.{Completion}
 use Rattle.state.specs.declared.Gate.{Gate}
 use Rattle.state.specs.declared.Row.{Row}
 use Rattle.state.specs.declared.Parts.{Parts}
-use Rattle.state.specs.Cells.{optionalOf, numberIf}
+use Rattle.state.specs.Cells.{absent, optionalOf, numberIf}
 use Rattle.state.specs.View.{tagAt}
 
 -- the columns are of their lengths, as those of every state that a program holds are
@@ -78,6 +78,19 @@ rebuilt s i p o g = record {
   failed = p .failed;
   «first_failure» = p .«first_failure»;
   lifecycle = s .lifecycle;
+}
+
+-- the phase, and "pending publication cleared"
+abbrev pub withoutPending : ℕ → Coordination → Coordination
+withoutPending phase c = record {
+  revision = c .revision;
+  phase = phase;
+  authorized = c .authorized;
+  «idle_authorization» = c .«idle_authorization»;
+  pending = false;
+  «pending_revision» = 0;
+  «pending_next_event» = absent;
+  «pending_grant_horizon» = absent;
 }
 
 -- the observations of the first n places cleared

@@ -3,6 +3,7 @@
 // Every function is total and refuses nothing.
 ghost use mathlib.Core.Path.{_≡_};
 ghost use Rattle.state.specs.Cells.{absent, isAbsent, cellOf, optionalOf};
+ghost use Rattle.state.specs.Parts.{withoutPending};
 use tags::OptionalTag;
 use tags::Tag;
 
@@ -12,6 +13,7 @@ pub const COMPLETED: usize = 32;
 pub const STARTED: usize = 64;
 
 // Revision, phase, idle authorization and pending publication.
+#[repr(C)]
 pub struct Coordination {
     pub revision: u64,
     pub phase: u8,
@@ -24,6 +26,7 @@ pub struct Coordination {
 }
 
 // Frontier, pending pair of network inputs, generation and probe of completion.
+#[repr(C)]
 pub struct Completion {
     pub completed_frontier: Tag,
     pub first_input: Tag,
@@ -33,6 +36,7 @@ pub struct Completion {
 }
 
 // Input horizon, stored acquisition, and the tag granted to every participant: an acquisition grants one tag to all, an input notice drops it for all.
+#[repr(C)]
 pub struct Gate {
     pub input_horizon: Tag,
     pub stored_revision: u64,
@@ -137,4 +141,20 @@ pub fn is_absent(cell: Tag) -> bool
     ensures { λ r. ⌜ r ≡ isAbsent cell ⌝ }
 {
     cell.nanoseconds < -999999999
+}
+
+// In this phase, with no publication pending.
+pub fn without_pending(c: Coordination, phase: u8) -> Coordination
+    ensures { λ r. ⌜ r ≡ withoutPending phase c ⌝ }
+{
+    Coordination {
+        revision: c.revision,
+        phase,
+        authorized: c.authorized,
+        idle_authorization: c.idle_authorization,
+        pending: false,
+        pending_revision: 0,
+        pending_next_event: ABSENT,
+        pending_grant_horizon: ABSENT,
+    }
 }

@@ -7,6 +7,7 @@ ghost use Rattle.tags.specs.Tags.{properIfPresent, isPresent, isBelow, a
 ghost use Rattle.tags.specs.Tags.{lesserPresent, greaterPresent, lesserOfBoth, cappedBy};
 
 // A point of logical time: an offset from the origin, and a step at it.
+#[repr(C)]
 pub struct Tag {
     // Whole seconds from the origin of logical time.
     pub seconds: i64,

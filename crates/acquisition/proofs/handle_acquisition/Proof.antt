@@ -11,7 +11,7 @@ use Rattle.rules.specs.Calls.{isSound}
 use Rattle.state.specs.View.{view, represents}
 use Rattle.state.specs.Parts.{Sized}
 use Rattle.calls.specs.Called.{lent, refusalOf}
-use Rattle.acquisition.specs.Acquire.{Acquires}
+use Rattle.grants.specs.Acquire.{Acquires}
 use Rattle.calls.proofs.Standing.{sized-by, whole, Standing, standing, is-so}
 use Rattle.calls.proofs.Ends.{ends-27, ends-8, ends-7}
 use Rattle.acquisition.proofs.Acquiring.{acquire-taken, stays-promised, moves-promised}

@@ -14,8 +14,8 @@ returns c =
     let a = c .before .before .before .before .args in
     rw (c .says .ensures) (λ e. fail-stopped (a .parts) (c .before .if1 .taken) e (a .enclave), λ h. h)
 
-halted-requires : tie.Need-halted-requires
-halted-requires c κs = search needs
+without-pending-requires : tie.Need-without-pending-requires
+without-pending-requires c κs = search needs
 
 enum-told : tie.Need-enum-told
 enum-told c = search needs
@@ -33,7 +33,7 @@ says-requires-3 c κs = search needs
 returns-2 : tie.Need-returns-2
 returns-2 c =
     let p = c .before .before .before .before .before .before .before .args .parts in
-    let u = c .before .before .before .halted .ensures in
+    let u = c .before .before .before .without-pending .ensures in
     rw (c .says2 .ensures, c .before .enum-told .given .1)
     (fail-running p _ u NoEnclave (c .before .before .before .before .if1 .left), neat-failing p _ u NoEnclave)
 
@@ -41,7 +41,7 @@ returns-2 c =
 returns-3 : tie.Need-returns-3
 returns-3 c =
     let p = c .before .before .before .before .before .before .before .before .args .parts in
-    let u = c .before .before .before .before .halted .ensures in
+    let u = c .before .before .before .before .without-pending .ensures in
     let index = c .before .before .enclave .given .0 .0 in
     rw (c .says3 .ensures, c .before .before .enclave .given .1)
     (fail-running p _ u (Enclave index) (c .before .before .before .before .before .if1 .left), neat-failing p _ u (Enclave index))
@@ -52,7 +52,7 @@ fail-spec =
     (tie.spec
     says-requires
     returns
-    halted-requires
+    without-pending-requires
     enum-told
     says-requires-2
     enum-known-enclave

@@ -11,8 +11,8 @@ says-requires c κs = search needs
 returns : tie.Need-returns
 returns c = let p = c .before .before .before .before .args .parts in rw (c .says .ensures) (stop-stopped p (c .before .if1 .taken), λ h. h)
 
-halted-requires : tie.Need-halted-requires
-halted-requires c κs = search needs
+without-pending-requires : tie.Need-without-pending-requires
+without-pending-requires c κs = search needs
 
 says-requires-2 : tie.Need-says-requires-2
 says-requires-2 c κs = search needs
@@ -21,8 +21,8 @@ says-requires-2 c κs = search needs
 returns-2 : tie.Need-returns-2
 returns-2 c =
     let p = c .before .before .before .before .before .args .parts in
-    let u = c .before .halted .ensures in
+    let u = c .before .without-pending .ensures in
     rw (c .says2 .ensures) (stop-running p _ u (c .before .before .if1 .left), neat-stopping p _ u)
 
 pub participant-stopped-spec : {M : Type 1} → statement M
-participant-stopped-spec = tie.close (tie.spec says-requires returns halted-requires says-requires-2 returns-2)
+participant-stopped-spec = tie.close (tie.spec says-requires returns without-pending-requires says-requires-2 returns-2)
