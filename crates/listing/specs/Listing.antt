@@ -1,36 +1,12 @@
 -- Document 01, "Script and its listing": the lines of a listing. "prints per event: number, refusal, answer (0, 1 or `-`), action count; then its
 -- actions. Last: `end`, revision, phase in lower case, generation, completed frontier, horizon, settled." Assumes nothing.
 use Prim.Native.Nat.{ℕ}
-use mathlib.Core.Bool.{Bool, true, false}
+use mathlib.Core.Bool.{Bool}
 use mathlib.Core.List.{List, [], _∷_, _++_}
 use Rattle.numerals.specs.Numerals.{text}
 use Rattle.printing.specs.Printing.{decimal, tagText, optionalTagText}
-use Rattle.rules.specs.Model.{OptionalTag, CoordinationPhase, Active, Probing, Parking, Rechecking, Parked, AwaitingIdleConfirmation, Stopped, CoordinationAction, Publish, AdvanceHorizon, Grant, Complete, CompletionProbe, Probe, Park, Recheck, Resume, Stop, Abort, Answer, Silent, No, Yes}
-
--- words with single spaces between them, LF-ended
-abbrev pub line : List (List ℕ) → List ℕ
-line [] = text "\n"
-line (w ∷ []) = w ++ text "\n"
-line (w ∷ v ∷ ws) = w ++ text " " ++ line (v ∷ ws)
-
-abbrev pub markText : Bool → List ℕ
-markText false = text "0"
-markText true = text "1"
-
-abbrev pub answerText : Answer → List ℕ
-answerText Silent = text "-"
-answerText No = text "0"
-answerText Yes = text "1"
-
--- the Rust's names in lower case
-abbrev pub phaseText : CoordinationPhase → List ℕ
-phaseText Active = text "active"
-phaseText Probing = text "probing"
-phaseText Parking = text "parking"
-phaseText Rechecking = text "rechecking"
-phaseText Parked = text "parked"
-phaseText AwaitingIdleConfirmation = text "awaitingidleconfirmation"
-phaseText Stopped = text "stopped"
+use Rattle.rules.specs.Model.{OptionalTag, CoordinationPhase, CoordinationAction, Publish, AdvanceHorizon, Grant, Complete, CompletionProbe, Probe, Park, Recheck, Resume, Stop, Abort, Answer}
+use Rattle.fields.specs.Words.{line, markText, answerText, phaseText}
 
 unfoldable pub actionLine : CoordinationAction → List ℕ
 actionLine (Publish p) = line (text "publish" ∷ decimal (p .revision) ∷ optionalTagText (p .«next_event») ∷ optionalTagText (p .«grant_horizon») ∷ [])

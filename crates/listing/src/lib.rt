@@ -1,6 +1,6 @@
 // The listing's lines (document 01, "Script and its listing"), put into lent room from a place on; the answer is the place after the line.
 // New here: the Rust prints nothing. Nothing is refused: the callers lend room for the longest line of its kind, and every byte outside
-// the line keeps its value. A line is made of its first word and of fields, each with the space before it.
+// the line keeps its value.
 ghost use Prim.Native.Nat.{_+_, _*_, _≤_, _<_};
 ghost use mathlib.Core.Path.{_≡_};
 ghost use mathlib.Core.List.{[], _∷_};
@@ -10,11 +10,11 @@ ghost use Rattle.actions.specs.Reading.{readAction};
 ghost use Rattle.records.specs.declared.CoordinationAction.the-variants.{Publish, AdvanceHorizon, Grant, Complete};
 ghost use Rattle.printing.specs.Printing.{decimal};
 ghost use Rattle.printing.specs.Runs.{Puts};
-ghost use Rattle.listing.specs.Listing.{line, phaseText, actionLine, eventLine, endLine, misplacedLine, refusedLine};
-ghost use Rattle.listing.specs.Fields.{isBlank, wordOf, roomOf, words, fieldText, fieldsText, rest};
-ghost use Rattle.listing.specs.declared.Field.the-variants.{Mark, Said};
+ghost use Rattle.fields.specs.Words.{line};
+ghost use Rattle.listing.specs.Listing.{actionLine, eventLine, endLine, misplacedLine, refusedLine};
 ghost use Rattle.listing.specs.Records.{recordLine, recordLines};
 use actions::ReadAction;
+use fields::Field;
 use records::Answer;
 use records::CoordinationAction;
 use records::CoordinationPhase;
@@ -24,120 +24,13 @@ use records::Refusal;
 use tags::OptionalTag;
 use tags::Tag;
 
-// A word of a line after the first, by what it says; a line with fewer words has blank fields.
-enum Field {
-    Blank,
-    Number(u64),
-    Time(OptionalTag),
-    Mark(bool),
-    Said(Answer),
-    Phase(CoordinationPhase),
-}
-
-fn is_blank(field: Field) -> bool
-    ensures { λ r. ⌜ r ≡ isBlank field ⌝ }
-{
-    match field {
-        Field::Blank => true,
-        Field::Number(_) => false,
-        Field::Time(_) => false,
-        Field::Mark(_) => false,
-        Field::Said(_) => false,
-        Field::Phase(_) => false,
-    }
-}
-
-fn put_phase(out: &mut [u8], at: usize, phase: CoordinationPhase) -> usize
-    requires { ⌜ at + 24 ≤ length (now out) ⌝ }
-    ensures { λ r. ⌜ Puts (now (out .entry)) at (phaseText phase) 24 r (now (out .exit)) ⌝ }
-{
-    match phase {
-        CoordinationPhase::Active => printing::put_text(out, at, b"active"),
-        CoordinationPhase::Probing => printing::put_text(out, at, b"probing"),
-        CoordinationPhase::Parking => printing::put_text(out, at, b"parking"),
-        CoordinationPhase::Rechecking => printing::put_text(out, at, b"rechecking"),
-        CoordinationPhase::Parked => printing::put_text(out, at, b"parked"),
-        CoordinationPhase::AwaitingIdleConfirmation => {
-            printing::put_text(out, at, b"awaitingidleconfirmation")
-        }
-        CoordinationPhase::Stopped => printing::put_text(out, at, b"stopped"),
-    }
-}
-
-fn mark_byte(mark: bool) -> u8
-    ensures { λ r. ⌜ wordOf (Mark mark) ≡ r ∷ [] ⌝ }
-{
-    if mark { b'1' } else { b'0' }
-}
-
-fn answer_byte(answer: Answer) -> u8
-    ensures { λ r. ⌜ wordOf (Said answer) ≡ r ∷ [] ⌝ }
-{
-    match answer {
-        Answer::Silent => b'-',
-        Answer::No => b'0',
-        Answer::Yes => b'1',
-    }
-}
-
-fn put_word(out: &mut [u8], at: usize, field: Field) -> usize
-    requires { ⌜ at + roomOf field ≤ length (now out) ⌝ }
-    ensures { λ r. ⌜ Puts (now (out .entry)) at (wordOf field) (roomOf field) r (now (out .exit)) ⌝ }
-{
-    match field {
-        Field::Blank => at,
-        Field::Number(n) => printing::put_decimal(out, at, n),
-        Field::Time(tag) => printing::put_optional_tag(out, at, tag),
-        Field::Mark(mark) => printing::put_byte(out, at, mark_byte(mark)),
-        Field::Said(answer) => printing::put_byte(out, at, answer_byte(answer)),
-        Field::Phase(phase) => put_phase(out, at, phase),
-    }
-}
-
-fn put_field(out: &mut [u8], at: usize, field: Field) -> usize
-    requires { ⌜ at + 1 + roomOf field ≤ length (now out) ⌝ }
-    ensures { λ r. ⌜ Puts (now (out .entry)) at (fieldText field) (1 + roomOf field) r (now (out .exit)) ⌝ }
-{
-    if is_blank(field) {
-        return at;
-    }
-    let word = printing::put_byte(out, at, b' ');
-    put_word(out, word, field)
-}
-
-fn put_fields(out: &mut [u8], at: usize, one: Field, two: Field, three: Field) -> usize
-    requires { ⌜ at + (3 + roomOf one + roomOf two + roomOf three) ≤ length (now out) ⌝ }
-    ensures { λ r. ⌜ Puts (now (out .entry)) at (fieldsText one two three) (3 + roomOf one + roomOf two + roomOf three) r (now (out .exit)) ⌝ }
-{
-    let first = put_field(out, at, one);
-    let second = put_field(out, first, two);
-    put_field(out, second, three)
-}
-
-fn put_rest(out: &mut [u8], at: usize, one: Field, two: Field, three: Field) -> usize
-    requires { ⌜ at + (4 + roomOf one + roomOf two + roomOf three) ≤ length (now out) ⌝ }
-    ensures { λ r. ⌜ Puts (now (out .entry)) at (rest (words (one ∷ two ∷ three ∷ []))) (4 + roomOf one + roomOf two + roomOf three) r (now (out .exit)) ⌝ }
-{
-    let end = put_fields(out, at, one, two, three);
-    printing::put_byte(out, end, b'\n')
-}
-
-fn put_line(out: &mut [u8], at: usize, word: &[u8], one: Field, two: Field, three: Field) -> usize
-    requires { ⌜ at + length (now word) + (4 + roomOf one + roomOf two + roomOf three) ≤ length (now out) ⌝ }
-    requires { ⌜ length (now word) + (4 + roomOf one + roomOf two + roomOf three) ≤ 160 ⌝ }
-    ensures { λ r. ⌜ Puts (now (out .entry)) at (line (now (word .entry) ∷ words (one ∷ two ∷ three ∷ []))) 160 r (now (out .exit)) ⌝ }
-{
-    let after = printing::put_text(out, at, word);
-    put_rest(out, after, one, two, three)
-}
-
 fn put_publish(out: &mut [u8], at: usize, p: FederatePublication) -> usize
     requires { ⌜ at + 160 ≤ length (now out) ⌝ }
     ensures { λ r. ⌜ Puts (now (out .entry)) at (actionLine (Publish p)) 160 r (now (out .exit)) ⌝ }
 {
     let next_event = p.next_event;
     let grant_horizon = p.grant_horizon;
-    put_line(
+    fields::put_line(
         out,
         at,
         b"publish",
@@ -152,7 +45,7 @@ fn put_complete(out: &mut [u8], at: usize, c: FederateCompletion) -> usize
     ensures { λ r. ⌜ Puts (now (out .entry)) at (actionLine (Complete c)) 160 r (now (out .exit)) ⌝ }
 {
     let tag = c.completed;
-    put_line(
+    fields::put_line(
         out,
         at,
         b"complete",
@@ -166,7 +59,7 @@ fn put_numbered(out: &mut [u8], at: usize, word: &[u8], number: u64) -> usize
     requires { ⌜ (at + 160 ≤ length (now out)) × (length (now word) ≤ 16) ⌝ }
     ensures { λ r. ⌜ Puts (now (out .entry)) at (line (now (word .entry) ∷ decimal number ∷ [])) 160 r (now (out .exit)) ⌝ }
 {
-    put_line(
+    fields::put_line(
         out,
         at,
         word,
@@ -180,7 +73,7 @@ fn put_two_numbers(out: &mut [u8], at: usize, word: &[u8], first: u32, second: u
     requires { ⌜ (at + 160 ≤ length (now out)) × (length (now word) ≤ 16) ⌝ }
     ensures { λ r. ⌜ Puts (now (out .entry)) at (line (now (word .entry) ∷ decimal first ∷ decimal second ∷ [])) 160 r (now (out .exit)) ⌝ }
 {
-    put_line(
+    fields::put_line(
         out,
         at,
         word,
@@ -194,7 +87,7 @@ fn put_grant(out: &mut [u8], at: usize, enclave: u32, tag: Tag) -> usize
     requires { ⌜ at + 160 ≤ length (now out) ⌝ }
     ensures { λ r. ⌜ Puts (now (out .entry)) at (actionLine (Grant enclave tag)) 160 r (now (out .exit)) ⌝ }
 {
-    put_line(
+    fields::put_line(
         out,
         at,
         b"grant",
@@ -208,7 +101,7 @@ fn put_advance(out: &mut [u8], at: usize, tag: Tag) -> usize
     requires { ⌜ at + 160 ≤ length (now out) ⌝ }
     ensures { λ r. ⌜ Puts (now (out .entry)) at (actionLine (AdvanceHorizon tag)) 160 r (now (out .exit)) ⌝ }
 {
-    put_line(
+    fields::put_line(
         out,
         at,
         b"advance",
@@ -222,7 +115,7 @@ fn put_plain(out: &mut [u8], at: usize, word: &[u8]) -> usize
     requires { ⌜ (at + 160 ≤ length (now out)) × (length (now word) ≤ 16) ⌝ }
     ensures { λ r. ⌜ Puts (now (out .entry)) at (line (now (word .entry) ∷ [])) 160 r (now (out .exit)) ⌝ }
 {
-    put_line(out, at, word, Field::Blank, Field::Blank, Field::Blank)
+    fields::put_line(out, at, word, Field::Blank, Field::Blank, Field::Blank)
 }
 
 // Puts the action's line.
@@ -292,7 +185,7 @@ pub fn put_event(
 {
     let after = printing::put_decimal(out, at, number);
     let refused = records::refusal_number(refusal) as u64;
-    put_rest(
+    fields::put_rest(
         out,
         after,
         Field::Number(refused),
@@ -316,14 +209,14 @@ pub fn put_end(
     ensures { λ r. ⌜ Puts (now (out .entry)) at (endLine revision phase generation «completed_frontier» «grant_horizon» settled) 240 r (now (out .exit)) ⌝ }
 {
     let word = printing::put_text(out, at, b"end");
-    let half = put_fields(
+    let half = fields::put_fields(
         out,
         word,
         Field::Number(revision),
         Field::Phase(phase),
         Field::Number(generation),
     );
-    put_rest(
+    fields::put_rest(
         out,
         half,
         Field::Time(completed_frontier),

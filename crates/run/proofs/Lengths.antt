@@ -24,7 +24,8 @@ use Rattle.state.specs.View.{view}
 use Rattle.calls.proofs.Refusals.{passes}
 use Rattle.take.proofs.Arms.{not-27}
 use Rattle.calls.specs.Called.{lent, refusalOf, actionsOf, answerOf}
-use Rattle.listing.specs.Listing.{line, markText, answerText, actionLine, actionLines, eventLine}
+use Rattle.fields.specs.Words.{line, markText, answerText}
+use Rattle.listing.specs.Listing.{actionLine, actionLines, eventLine}
 use Rattle.run.specs.Run.{given, eventLines}
 
 -- ---- numbers and tags

@@ -3,10 +3,10 @@ use mathlib.Core.List.{[], _∷_}
 use native.Mathlib.Omega.{arith}
 use borrow.Author.Needs.{needs}
 use Rattle.printing.proofs.Runs.{at-most}
-use Rattle.listing.specs.Fields.{words}
+use Rattle.fields.specs.Fields.{words}
 use Rattle.listing.specs.Listing.{endLine}
-use Rattle.listing.specs.declared.Field.the-variants.{Number, Time, Mark, Phase}
-use Rattle.listing.proofs.Lines.{then-line, then-rest}
+use Rattle.fields.specs.declared.Field.the-variants.{Number, Time, Mark, Phase}
+use Rattle.fields.proofs.Lines.{then-line, then-rest}
 use Rattle.listing.proofs.put_end.Statement.{statement}
 use Rattle.listing.proofs.put_end.Tie as tie
 

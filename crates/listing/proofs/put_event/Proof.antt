@@ -4,10 +4,10 @@ use native.Mathlib.Omega.{arith}
 use borrow.Author.Needs.{needs}
 use Rattle.records.specs.Numbers.{refusalNumber}
 use Rattle.printing.proofs.Runs.{at-most}
-use Rattle.listing.specs.Fields.{words}
-use Rattle.listing.specs.declared.Field.the-variants.{Number, Said}
+use Rattle.fields.specs.Fields.{words}
+use Rattle.fields.specs.declared.Field.the-variants.{Number, Said}
 use Rattle.listing.specs.Listing.{eventLine}
-use Rattle.listing.proofs.Lines.{then-line}
+use Rattle.fields.proofs.Lines.{then-line}
 use Rattle.listing.proofs.put_event.Statement.{statement}
 use Rattle.listing.proofs.put_event.Tie as tie
 

@@ -1,9 +1,9 @@
--- `listing::put_phase` meets its contract: each arm puts the word of its constructor. Assumes nothing.
+-- `fields::put_phase` meets its contract: each arm puts the word of its constructor. Assumes nothing.
 use native.Mathlib.Omega.{arith}
 use borrow.Author.Needs.{needs}
 use Rattle.printing.proofs.Runs.{at-most}
-use Rattle.listing.proofs.put_phase.Statement.{statement}
-use Rattle.listing.proofs.put_phase.Tie as tie
+use Rattle.fields.proofs.put_phase.Statement.{statement}
+use Rattle.fields.proofs.put_phase.Tie as tie
 
 enum-told : tie.Need-enum-told
 enum-told c = search needs

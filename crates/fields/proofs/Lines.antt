@@ -7,9 +7,9 @@ use lib.ListN.{length}
 use Rattle.numerals.specs.Numerals.{text}
 use Rattle.printing.specs.Runs.{Puts}
 use Rattle.printing.proofs.Runs.{then-more}
-use Rattle.listing.specs.Listing.{line}
-use Rattle.listing.specs.Fields.{isBlank, wordOf, words, fieldText, fieldsText, rest}
-use Rattle.listing.specs.declared.Field.{Field}
+use Rattle.fields.specs.Words.{line}
+use Rattle.fields.specs.Fields.{isBlank, wordOf, words, fieldText, fieldsText, rest}
+use Rattle.fields.specs.declared.Field.{Field}
 
 line-rest : (w : List ℕ) (ws : List (List ℕ)) → line (w ∷ ws) ≡ w ++ rest ws
 line-rest w [] = refl

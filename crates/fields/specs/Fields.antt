@@ -4,9 +4,9 @@ use mathlib.Core.Bool.{Bool, true, false, cond}
 use mathlib.Core.List.{List, [], _∷_, _++_}
 use Rattle.numerals.specs.Numerals.{text}
 use Rattle.printing.specs.Printing.{decimal, optionalTagText}
-use Rattle.listing.specs.Listing.{markText, answerText, phaseText}
-use Rattle.listing.specs.declared.Field.{Field}
-use Rattle.listing.specs.declared.Field.the-variants.{Blank, Number, Time, Mark, Said, Phase}
+use Rattle.fields.specs.Words.{markText, answerText, phaseText}
+use Rattle.fields.specs.declared.Field.{Field}
+use Rattle.fields.specs.declared.Field.the-variants.{Blank, Number, Time, Mark, Said, Phase}
 
 abbrev pub isBlank : Field → Bool
 isBlank Blank = true

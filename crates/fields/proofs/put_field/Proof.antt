@@ -1,10 +1,10 @@
--- `listing::put_field` meets its contract: nothing for a blank field, else a space and the word. Assumes nothing.
+-- `fields::put_field` meets its contract: nothing for a blank field, else a space and the word. Assumes nothing.
 use native.Mathlib.Omega.{arith}
 use borrow.Author.Needs.{needs}
 use Rattle.tags.specs.Branches.{is-true, is-false}
 use Rattle.printing.proofs.Runs.{then-more, put-nothing}
-use Rattle.listing.proofs.put_field.Statement.{statement}
-use Rattle.listing.proofs.put_field.Tie as tie
+use Rattle.fields.proofs.put_field.Statement.{statement}
+use Rattle.fields.proofs.put_field.Tie as tie
 
 is-blank-requires : tie.Need-is-blank-requires
 is-blank-requires c κs = search needs

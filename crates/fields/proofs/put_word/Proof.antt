@@ -1,9 +1,9 @@
--- `listing::put_word` meets its contract: each arm puts the word of its constructor, which takes no more than its room. Assumes nothing.
+-- `fields::put_word` meets its contract: each arm puts the word of its constructor, which takes no more than its room. Assumes nothing.
 use native.Mathlib.Omega.{arith}
 use borrow.Author.Needs.{needs}
 use Rattle.printing.proofs.Runs.{put-nothing}
-use Rattle.listing.proofs.put_word.Statement.{statement}
-use Rattle.listing.proofs.put_word.Tie as tie
+use Rattle.fields.proofs.put_word.Statement.{statement}
+use Rattle.fields.proofs.put_word.Tie as tie
 
 enum-told : tie.Need-enum-told
 enum-told c = search needs

@@ -1,6 +1,6 @@
--- `listing::mark_byte` meets its contract, by the mark. Assumes nothing.
-use Rattle.listing.proofs.mark_byte.Statement.{statement}
-use Rattle.listing.proofs.mark_byte.Tie as tie
+-- `fields::mark_byte` meets its contract, by the mark. Assumes nothing.
+use Rattle.fields.proofs.mark_byte.Statement.{statement}
+use Rattle.fields.proofs.mark_byte.Tie as tie
 
 returns : tie.Need-returns
 returns c = rw (c .if1 .taken)

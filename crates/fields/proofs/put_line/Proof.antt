@@ -1,12 +1,12 @@
--- `listing::put_line` meets its contract: the first word, and the rest right after it. Assumes nothing.
+-- `fields::put_line` meets its contract: the first word, and the rest right after it. Assumes nothing.
 use mathlib.Core.List.{[], _∷_}
 use native.Mathlib.Omega.{arith}
 use borrow.Author.Needs.{needs}
 use Rattle.printing.proofs.Runs.{at-most}
-use Rattle.listing.specs.Fields.{words}
-use Rattle.listing.proofs.Lines.{then-line}
-use Rattle.listing.proofs.put_line.Statement.{statement}
-use Rattle.listing.proofs.put_line.Tie as tie
+use Rattle.fields.specs.Fields.{words}
+use Rattle.fields.proofs.Lines.{then-line}
+use Rattle.fields.proofs.put_line.Statement.{statement}
+use Rattle.fields.proofs.put_line.Tie as tie
 
 put-text-requires : tie.Need-put-text-requires
 put-text-requires c κs = search needs

@@ -1,11 +1,11 @@
--- `listing::put_rest` meets its contract: three fields, and the line's end right after them. Assumes nothing.
+-- `fields::put_rest` meets its contract: three fields, and the line's end right after them. Assumes nothing.
 use mathlib.Core.List.{[]}
 use native.Mathlib.Omega.{arith}
 use borrow.Author.Needs.{needs}
 use Rattle.printing.proofs.Runs.{at-most}
-use Rattle.listing.proofs.Lines.{then-rest}
-use Rattle.listing.proofs.put_rest.Statement.{statement}
-use Rattle.listing.proofs.put_rest.Tie as tie
+use Rattle.fields.proofs.Lines.{then-rest}
+use Rattle.fields.proofs.put_rest.Statement.{statement}
+use Rattle.fields.proofs.put_rest.Tie as tie
 
 put-fields-requires : tie.Need-put-fields-requires
 put-fields-requires c κs = search needs

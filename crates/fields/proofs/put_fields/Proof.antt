@@ -1,9 +1,9 @@
--- `listing::put_fields` meets its contract: three runs, one right after the other. Assumes nothing.
+-- `fields::put_fields` meets its contract: three runs, one right after the other. Assumes nothing.
 use native.Mathlib.Omega.{arith}
 use borrow.Author.Needs.{needs}
 use Rattle.printing.proofs.Runs.{then-more, at-most}
-use Rattle.listing.proofs.put_fields.Statement.{statement}
-use Rattle.listing.proofs.put_fields.Tie as tie
+use Rattle.fields.proofs.put_fields.Statement.{statement}
+use Rattle.fields.proofs.put_fields.Tie as tie
 
 put-field-requires : tie.Need-put-field-requires
 put-field-requires c κs = search needs

@@ -1,7 +1,7 @@
--- `listing::answer_byte` meets its contract: each arm is the byte of its constructor. Assumes nothing.
+-- `fields::answer_byte` meets its contract: each arm is the byte of its constructor. Assumes nothing.
 use borrow.Author.Needs.{needs}
-use Rattle.listing.proofs.answer_byte.Statement.{statement}
-use Rattle.listing.proofs.answer_byte.Tie as tie
+use Rattle.fields.proofs.answer_byte.Statement.{statement}
+use Rattle.fields.proofs.answer_byte.Tie as tie
 
 enum-told : tie.Need-enum-told
 enum-told c = search needs
