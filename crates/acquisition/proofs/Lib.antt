@@ -1,2 +1,3 @@
 pub mod Acquiring
 pub mod Repeats
+pub mod Unless

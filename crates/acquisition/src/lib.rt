@@ -12,6 +12,7 @@ ghost use Rattle.actions.specs.Record.{recordsOf};
 ghost use Rattle.state.specs.Cells.{optionalOf};
 ghost use Rattle.calls.specs.Called.{Promised, lent, actionsOf};
 ghost use Rattle.acquisition.specs.Pending.{pendingOf};
+ghost use Rattle.acquisition.specs.Unless.{unlessRefused};
 use calls::Called;
 use records::Answer;
 use records::CoordinationAction;
@@ -112,11 +113,10 @@ pub fn handle_acquisition(
     ) {
         return calls::with_reply(state, Refusal::UnsoundState, Answer::Silent, 0);
     }
-    if room.len() < 56 * (count + 2) {
-        return calls::with_reply(state, Refusal::RoomTooSmall, Answer::Silent, 0);
-    }
-    if !tags::is_proper(tag) {
-        return calls::with_reply(state, Refusal::ImproperTag, Answer::Silent, 0);
+    let proper = tags::is_proper(tag);
+    let refusal = calls::room_first(room.len(), count, calls::tag_first(proper, true));
+    if records::refusal_number(refusal) != 0 {
+        return calls::with_reply(state, refusal, Answer::Silent, 0);
     }
     let acquired = grants::acquire(coordination, gate, horizon, acquisition.revision, tag);
     let settled = acquired.coordination;
@@ -154,14 +154,9 @@ pub fn handle_acquisition(
     calls::with_reply(state, Refusal::Taken, Answer::Silent, written)
 }
 
-// A publication was sent: if it is the pending one and its next event is at or below the horizon, an acquisition of its revision and the horizon.
-pub fn handle_publication_sent(
-    state: FederateCoordinationState,
-    publication: FederatePublication,
-    room: &mut [u8],
-) -> Called
-    ensures { λ r. ⌜ Promised (lent (length (now (room .entry))) (sent (publication .revision) (publication .«next_event») (publication .«grant_horizon»))) state r ⌝ }
-    ensures bytes { λ r. ⌜ now (room .exit) ≡ putAt (now (room .entry)) 0 (recordsOf (actionsOf (lent (length (now (room .entry))) (sent (publication .revision) (publication .«next_event») (publication .«grant_horizon»))) state)) ⌝ }
+// 27 and 8 before a refusal that comes later, or before none, with the state as it came.
+fn unless_refused(state: FederateCoordinationState, room: usize, later: Refusal) -> Called
+    ensures { λ r. ⌜ r ≡ unlessRefused state room later ⌝ }
 {
     let count = state.count;
     let coordination = state.coordination;
@@ -187,14 +182,26 @@ pub fn handle_publication_sent(
     ) {
         return calls::with_reply(state, Refusal::UnsoundState, Answer::Silent, 0);
     }
-    if room.len() < 56 * (count + 2) {
-        return calls::with_reply(state, Refusal::RoomTooSmall, Answer::Silent, 0);
-    }
+    let refusal = calls::room_first(room, count, later);
+    calls::with_reply(state, refusal, Answer::Silent, 0)
+}
+
+// A publication was sent: if it is the pending one and its next event is at or below the horizon, an acquisition of its revision and the horizon.
+pub fn handle_publication_sent(
+    state: FederateCoordinationState,
+    publication: FederatePublication,
+    room: &mut [u8],
+) -> Called
+    ensures { λ r. ⌜ Promised (lent (length (now (room .entry))) (sent (publication .revision) (publication .«next_event») (publication .«grant_horizon»))) state r ⌝ }
+    ensures bytes { λ r. ⌜ now (room .exit) ≡ putAt (now (room .entry)) 0 (recordsOf (actionsOf (lent (length (now (room .entry))) (sent (publication .revision) (publication .«next_event») (publication .«grant_horizon»))) state)) ⌝ }
+{
     if !has_proper_tags(publication) {
-        return calls::with_reply(state, Refusal::ImproperTag, Answer::Silent, 0);
+        return unless_refused(state, room.len(), Refusal::ImproperTag);
     }
+    let coordination = state.coordination;
+    let horizon = state.grant_horizon;
     if !is_due(coordination, horizon, publication) {
-        return calls::with_reply(state, Refusal::Taken, Answer::Silent, 0);
+        return unless_refused(state, room.len(), Refusal::Taken);
     }
     let acquisition = FederateAcquisition {
         revision: publication.revision,
@@ -208,36 +215,10 @@ pub fn input_progress(state: FederateCoordinationState, room: &mut [u8]) -> Call
     ensures { λ r. ⌜ Promised (lent (length (now (room .entry))) progress) state r ⌝ }
     ensures bytes { λ r. ⌜ now (room .exit) ≡ putAt (now (room .entry)) 0 (recordsOf (actionsOf (lent (length (now (room .entry))) progress) state)) ⌝ }
 {
-    let count = state.count;
-    let coordination = state.coordination;
-    let completion = state.completion;
     let gate = state.gate;
-    let horizon = state.grant_horizon;
-    if !soundness::is_sound(
-        &state.enclaves,
-        &state.observation,
-        &state.acknowledged,
-        &state.completion_observed,
-        &state.seconds,
-        &state.nanoseconds,
-        &state.microsteps,
-        count,
-        coordination,
-        completion,
-        gate,
-        horizon,
-        state.failed,
-        state.first_failure,
-        state.lifecycle,
-    ) {
-        return calls::with_reply(state, Refusal::UnsoundState, Answer::Silent, 0);
-    }
-    if room.len() < 56 * (count + 2) {
-        return calls::with_reply(state, Refusal::RoomTooSmall, Answer::Silent, 0);
-    }
     let granted = gate.stored_granted;
     if state::is_absent(granted) {
-        return calls::with_reply(state, Refusal::Taken, Answer::Silent, 0);
+        return unless_refused(state, room.len(), Refusal::Taken);
     }
     let acquisition = FederateAcquisition {
         revision: gate.stored_revision,

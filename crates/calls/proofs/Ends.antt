@@ -1,11 +1,11 @@
 -- How a call ends that lends a room: refused, with the state and the room as they were; or taken, with a state that shows the rule's and the records of
 -- its actions at the front of the room. Assumes nothing.
-use mathlib.Core.Path.{_≡_, refl, sym, ap, _∙_}
-use mathlib.Core.Bool.{Bool, true, false, not, _&&_}
+use mathlib.Core.Path.{_≡_, refl, sym, ap, _∙_, subst}
+use mathlib.Core.Bool.{Bool, true, false, not, cond, _&&_}
 use mathlib.Core.List.{List, [], _∷_}
-use Prim.Native.Nat.{ℕ, _+_, _*_, _≤_, _<_}
+use Prim.Native.Nat.{ℕ, zero, suc, _+_, _*_, _≤_, _<_}
 use native.Mathlib.Omega.{arith}
-use borrow.Author.Tests.{lt-ltb, le-ltb}
+use borrow.Author.Tests.{lt-ltb, le-ltb, ltb-false, eqb-true}
 use lib.Dec.{T, eqb, ltb}
 use lib.ListN.{length}
 use Rattle.records.specs.Numbers.{refusalNumber}
@@ -16,14 +16,14 @@ use Rattle.bytes.proofs.Runs.{put-nil}
 use Rattle.actions.specs.Record.{recordsOf}
 use Rattle.rules.specs.Model.{CoordinationAction, Silent, Step, Call, Given}
 use Rattle.rules.specs.Walk.{quiet}
-use Rattle.rules.specs.Calls.{call, facts, takeStep, isSound, roomFor, allProper, refusal, refusedAnswer}
+use Rattle.rules.specs.Calls.{call, facts, takeStep, isSound, roomFor, allProper, knowsAll, refusal, refusedAnswer}
 use Rattle.rules.proofs.Room.{call-fits-room}
 use Rattle.state.specs.declared.FederateCoordinationState.{FederateCoordinationState as Held}
 use Rattle.state.specs.View.{view, put, represents}
 use Rattle.state.proofs.Put.{Beyond, beyond-refl}
-use Rattle.calls.specs.Called.{refusalOf, stateOf, actionsOf, answerOf, Promised, replied}
+use Rattle.calls.specs.Called.{lent, refusalOf, stateOf, actionsOf, answerOf, Promised, replied, roomFirst, tagFirst}
 use Rattle.calls.specs.declared.Called.{Called}
-use Rattle.calls.proofs.Refusals.{Passes, room-of, refusal-8, refusal-7, actions-taken}
+use Rattle.calls.proofs.Refusals.{Passes, passes, room-of, refusal-27, refusal-8, refusal-7, refusal-3, actions-taken}
 use Rattle.calls.proofs.Standing.{Standing, promised-refused, promised-27, promised-taken}
 
 -- what is promised of the answer, and of the room before and after
@@ -84,6 +84,55 @@ module _ (g : Given) (s : Held) (room : List ℕ) {r : Called} (silent : facts (
     pub ends-still : takeStep (g .what) (view s) ≡ quiet (view s) → r ≡ replied s Taken Silent 0 → Ends g s r room room
     ends-still = ends-quiet s (beyond-refl s) (st .good .neat)
 
+-- ---- 8, 7 and 3 by one number
+
+-- the three tests, and the refusal that they give
+pub record First (g : Given) (s : Held) (b c : Bool) (n : Refusal) : Type 0 where
+  pub takes : facts (g .what) .takesRoom ≡ true
+  pub proper : b ≡ allProper (facts (g .what) .tags)
+  pub known : c ≡ knowsAll (facts (g .what) .names) (view s .participants)
+  pub is : n ≡ roomFirst (g .room) (s .count) (tagFirst b c)
+
+module _ (g : Given) (s : Held) {b c : Bool} {n : Refusal} (f : First g s b c n) where
+  abbrev short : Bool
+  short = ltb (g .room) (56 * (s .count + 2))
+
+  first-refusal : Passes s → 0 < refusalNumber n → refusalNumber n ≡ refusalOf g s
+  first-refusal p = subst (λ (x : Refusal). 0 < refusalNumber x → refusalNumber x ≡ refusalOf g s) (sym (f .is)) (go short b c refl (f .proper) (f .known))
+    where
+      wide : short ≡ false → (facts (g .what) .takesRoom && ltb (g .room) (roomFor (view s))) ≡ false
+      wide e = rw (f .takes, room-of s) e
+
+      go : (a b c : Bool) → short ≡ a → b ≡ allProper (facts (g .what) .tags) → c ≡ knowsAll (facts (g .what) .names) (view s .participants)
+          → 0 < refusalNumber (cond a RoomTooSmall (tagFirst b c)) → refusalNumber (cond a RoomTooSmall (tagFirst b c)) ≡ refusalOf g s
+      go true b c e q k l = refusal-8 g s p (f .takes) (rw (room-of s) e)
+      go false false c e q k l = refusal-7 g s p (wide e) (sym q)
+      go false true false e q k l = refusal-3 g s p (wide e) (sym q) (sym k)
+      go false true true e q k l = absurd (omega arith)
+
+  pub ends-first : (room : List ℕ) {r : Called} → facts (g .what) .answer (view s) ≡ Silent → Passes s → (refusalNumber n ≡ 0 → ⊥) → r ≡ replied s n Silent 0
+      → Ends g s r room room
+  ends-first room silent p h e = let l = above h in ends-refused g s room silent n (first-refusal p l) l e
+    where
+      above : {m : ℕ} → (m ≡ 0 → ⊥) → 0 < m
+      above {m} h = by m h
+        where
+          by : (m : ℕ) → (m ≡ 0 → ⊥) → 0 < m
+          by zero h = absurd (h refl)
+          by (suc m) h = omega arith
+
+  -- none of the three
+  pub first-none : refusalNumber n ≡ 0 → (56 * (s .count + 2) ≤ g .room) × (b ≡ true) × (c ≡ true)
+  first-none h =
+      let w = subst (λ (x : Refusal). refusalNumber x ≡ 0 → (short ≡ false) × (b ≡ true) × (c ≡ true)) (sym (f .is)) (go short b c) h in
+      (ltb-false (g .room) (56 * (s .count + 2)) (w .0), w .1, w .2)
+    where
+      go : (a b c : Bool) → refusalNumber (cond a RoomTooSmall (tagFirst b c)) ≡ 0 → (a ≡ false) × (b ≡ true) × (c ≡ true)
+      go true b c l = absurd (omega arith)
+      go false false c l = absurd (omega arith)
+      go false true false l = absurd (omega arith)
+      go false true true l = (refl, refl, refl)
+
 -- the actions of a taken call fit into the room that it demands
 pub actions-fit : (g : Given) (s : Held) → Passes s → 0 ≡ refusalOf g s → 56 * length (takeStep (g .what) (view s) .actions) ≤ 56 * (s .count + 2)
 unfolding call refusalOf
@@ -94,27 +143,31 @@ actions-fit g s p free =
     let n = room-of s in
     omega arith
 
--- ---- two calls that are taken by the same step
+-- ---- two calls that are refused alike and taken by the same step
 
-module _ (g : Given) (s : Held) (free : 0 ≡ refusalOf g s) where
-  state-taken : stateOf g s ≡ put s (takeStep (g .what) (view s) .state)
-  unfolding stateOf
-  state-taken = let q : eqb (refusalOf g s) 0 ≡ true = rw (← free) refl in rw q refl
+-- refused alike if both are taken past 27 and 8
+pub refused-alike : (n : ℕ) (c d : Call) (s : Held) → facts c .takesRoom ≡ true → facts d .takesRoom ≡ true
+    → (Passes s → 56 * (s .count + 2) ≤ n → (0 ≡ refusalOf (lent n c) s) × (0 ≡ refusalOf (lent n d) s)) → refusalOf (lent n c) s ≡ refusalOf (lent n d) s
+refused-alike n c d s tc td free = go (represents s && isSound (view s)) (ltb n (56 * (s .count + 2))) refl refl
+  where
+    go : (a b : Bool) → (represents s && isSound (view s)) ≡ a → ltb n (56 * (s .count + 2)) ≡ b → refusalOf (lent n c) s ≡ refusalOf (lent n d) s
+    go true true e f = let p = passes s e in sym (refusal-8 (lent n c) s p tc (rw (room-of s) f)) ∙ refusal-8 (lent n d) s p td (rw (room-of s) f)
+    go true false e f = let p = free (passes s e) (ltb-false n (56 * (s .count + 2)) f) in sym (p .0) ∙ p .1
+    go false b e f = sym (refusal-27 (lent n c) s e) ∙ refusal-27 (lent n d) s e
 
-  answer-taken : answerOf g s ≡ facts (g .what) .answer (view s)
-  unfolding answerOf
-  answer-taken = let q : eqb (refusalOf g s) 0 ≡ true = rw (← free) refl in rw q refl
-
-pub ends-as : (g k : Given) (s : Held) (room after : List ℕ) (r : Called) → 0 ≡ refusalOf g s → 0 ≡ refusalOf k s
-    → facts (g .what) .answer (view s) ≡ facts (k .what) .answer (view s) → takeStep (g .what) (view s) ≡ takeStep (k .what) (view s)
-    → Ends g s r room after → Ends k s r room after
-ends-as g k s room after r a b q e o =
-    let acts : actionsOf g s ≡ actionsOf k s = actions-taken g s a ∙ ap (λ x. x .actions) e ∙ sym (actions-taken k s b) in (
-      record {
-        refusal = o .0 .refusal ∙ sym a ∙ b;
-        answer = o .0 .answer ∙ answer-taken g s a ∙ q ∙ sym (answer-taken k s b);
-        actions = o .0 .actions ∙ ap length acts;
-        state = o .0 .state ∙ state-taken g s a ∙ ap (λ x. put s (x .state)) e ∙ sym (state-taken k s b);
-      },
-      o .1 ∙ ap (λ (l : List CoordinationAction). putAt room 0 (recordsOf l)) acts,
+pub ends-as : (g k : Given) (s : Held) (room after : List ℕ) (r : Called) → refusalOf g s ≡ refusalOf k s
+    → facts (g .what) .answer (view s) ≡ facts (k .what) .answer (view s)
+    → (0 ≡ refusalOf g s → takeStep (g .what) (view s) ≡ takeStep (k .what) (view s)) → Ends g s r room after → Ends k s r room after
+unfolding stateOf actionsOf answerOf
+ends-as g k s room after r a q e o =
+    let w = same (eqb (refusalOf g s) 0) refl in (
+      record { refusal = o .0 .refusal ∙ a; answer = o .0 .answer ∙ w .2; actions = o .0 .actions ∙ ap length (w .1); state = o .0 .state ∙ w .0 },
+      o .1 ∙ ap (λ (l : List CoordinationAction). putAt room 0 (recordsOf l)) (w .1),
     )
+  where
+    same : (b : Bool) → eqb (refusalOf g s) 0 ≡ b → (stateOf g s ≡ stateOf k s) × (actionsOf g s ≡ actionsOf k s) × (answerOf g s ≡ answerOf k s)
+    same true h =
+        let z : eqb (refusalOf k s) 0 ≡ true = ap (λ n. eqb n 0) (sym a) ∙ h in
+        let step = e (sym (eqb-true (refusalOf g s) 0 h)) in
+        rw (h, z) (ap (λ (x : Step). put s (x .state)) step, ap (λ (x : Step). x .actions) step, q)
+    same false h = let z : eqb (refusalOf k s) 0 ≡ false = ap (λ n. eqb n 0) (sym a) ∙ h in rw (h, z) (refl, refl, ap refusedAnswer q)

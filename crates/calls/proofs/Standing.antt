@@ -83,13 +83,15 @@ pub record Standing (s : Held) : Type 0 where
   pub few : s .count ≤ 32
   pub ascends : T (ascending (rowsOf s))
 
--- by the test of 27 that the code makes
-pub standing : (s : Held) → Sized s → {b : Bool} → b ≡ (represents s && isSound (view s)) → not b ≡ false → Standing s
-standing s z {b} e h =
-    let p = passes s (sym e ∙ not-false b h) in
+pub standing-by : (s : Held) → Sized s → Passes s → Standing s
+standing-by s z p =
     let sound : T (isSound (view s)) = is-so (p .sound) in
     let n = count-bounds s sound in
     record { passing = p; good = record { sized = z; neat = is-so (p .neat); sound = sound }; one = n .0; few = n .1; ascends = sound-ascending (view s) sound }
+
+-- by the test of 27 that the code makes
+pub standing : (s : Held) → Sized s → {b : Bool} → b ≡ (represents s && isSound (view s)) → not b ≡ false → Standing s
+standing s z {b} e h = standing-by s z (passes s (sym e ∙ not-false b h))
 
 -- ---- what is promised where no room is lent
 

@@ -3,11 +3,12 @@
 use mathlib.Core.Path.{_≡_}
 use mathlib.Core.Bool.{Bool, cond}
 use mathlib.Core.List.{List, []}
-use Prim.Native.Nat.{ℕ}
-use lib.Dec.{eqb}
+use Prim.Native.Nat.{ℕ, _+_, _*_}
+use lib.Dec.{eqb, ltb}
 use lib.ListN.{length}
 use Rattle.records.specs.Numbers.{refusalNumber}
 use Rattle.records.specs.declared.Refusal.{Refusal}
+use Rattle.records.specs.declared.Refusal.the-variants.{Taken, UnknownEnclave, ImproperTag, RoomTooSmall}
 use Rattle.rules.specs.Model.{CoordinationAction, Answer, Call, Given}
 use Rattle.rules.specs.Calls.{facts, takeStep, refusal, refusedAnswer}
 use Rattle.state.specs.declared.FederateCoordinationState.{FederateCoordinationState as Held}
@@ -43,3 +44,11 @@ pub record Promised (g : Given) (s : Held) (r : Called) : Type 0 where
 
 abbrev pub replied : Held → Refusal → Answer → ℕ → Called
 replied s n a k = record { state = s; reply = record { refusal = n; answer = a; actions = k } }
+
+-- ---- "Calls: 27, 8, 7, 3, 4, 9", as the code tests them: 8 before what comes later, and 7 before 3
+
+abbrev pub roomFirst : ℕ → ℕ → Refusal → Refusal
+roomFirst room count later = cond (ltb room (56 * (count + 2))) RoomTooSmall later
+
+abbrev pub tagFirst : Bool → Bool → Refusal
+tagFirst proper known = cond proper (cond known Taken UnknownEnclave) ImproperTag

@@ -1,6 +1,7 @@
 // What a public call answers: the next state and a reply, the same for every call. A refused call hands back the state it got.
 ghost use mathlib.Core.Path.{_≡_};
-ghost use Rattle.calls.specs.Called.{replied};
+ghost use Prim.Native.Nat.{_≤_};
+ghost use Rattle.calls.specs.Called.{replied, roomFirst, tagFirst};
 use records::Answer;
 use records::Refusal;
 use state::FederateCoordinationState;
@@ -33,4 +34,28 @@ pub fn with_reply(
         actions,
     };
     Called { state, reply }
+}
+
+// 8 before a refusal that comes later, or before none.
+pub fn room_first(room: usize, count: usize, later: Refusal) -> Refusal
+    requires { ⌜ count ≤ 32 ⌝ }
+    ensures { λ r. ⌜ r ≡ roomFirst room count later ⌝ }
+{
+    if room < 56 * (count + 2) {
+        return Refusal::RoomTooSmall;
+    }
+    later
+}
+
+// 7 before 3, or neither.
+pub fn tag_first(proper: bool, known: bool) -> Refusal
+    ensures { λ r. ⌜ r ≡ tagFirst proper known ⌝ }
+{
+    if !proper {
+        return Refusal::ImproperTag;
+    }
+    if !known {
+        return Refusal::UnknownEnclave;
+    }
+    Refusal::Taken
 }

@@ -39,9 +39,6 @@ pub fn handle_scheduler(
     ensures bytes { λ r. ⌜ now (room .exit) ≡ putAt (now (room .entry)) 0 (recordsOf (actionsOf (lent (length (now (room .entry))) (callOf message)) state)) ⌝ }
 {
     let count = state.count;
-    if 32 < count {
-        return calls::with_reply(state, Refusal::UnsoundState, Answer::Silent, 0);
-    }
     let coordination = state.coordination;
     let completion = state.completion;
     let gate = state.gate;
@@ -66,18 +63,14 @@ pub fn handle_scheduler(
     ) {
         return calls::with_reply(state, Refusal::UnsoundState, Answer::Silent, 0);
     }
-    if room.len() < 56 * (count + 2) {
-        return calls::with_reply(state, Refusal::RoomTooSmall, Answer::Silent, 0);
-    }
     let flat = dispatch::flat_of(message);
     let tag = flat.tag;
-    if !tags::proper_if_present(tag) {
-        return calls::with_reply(state, Refusal::ImproperTag, Answer::Silent, 0);
-    }
     let enclave = flat.enclave;
+    let proper = tags::proper_if_present(tag);
     let place = place_of(&state.enclaves, count, enclave);
-    if count <= place {
-        return calls::with_reply(state, Refusal::UnknownEnclave, Answer::Silent, 0);
+    let refusal = calls::room_first(room.len(), count, calls::tag_first(proper, place < count));
+    if records::refusal_number(refusal) != 0 {
+        return calls::with_reply(state, refusal, Answer::Silent, 0);
     }
     let row = table::row_at(
         &state.published,

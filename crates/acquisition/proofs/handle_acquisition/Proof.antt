@@ -1,19 +1,21 @@
 -- `acquisition::handle_acquisition` keeps the promise of the call `acquire`: it refuses by 27, 8 and 7 in this order, and else answers what `acquire`
 -- decided, with the records of AdvanceHorizon and the Grants where it grants. Assumes nothing.
 use mathlib.Core.Path.{_≡_, refl, sym, ap, _∙_}
-use mathlib.Core.Bool.{true, _&&_}
+use mathlib.Core.Bool.{Bool, true, false, _&&_}
+use Prim.Native.Nat.{_+_, _*_, _≤_}
 use native.Mathlib.Omega.{arith}
 use lib.ListN.{length}
 use borrow.Author.Tests.{not-true, not-false}
 use borrow.Author.Needs.{needs}
+use Rattle.tags.specs.Tags.{isProper}
 use Rattle.rules.specs.Model.{Given, acquire}
 use Rattle.rules.specs.Calls.{isSound}
 use Rattle.state.specs.View.{view, represents}
 use Rattle.state.specs.Parts.{Sized}
-use Rattle.calls.specs.Called.{lent, refusalOf}
+use Rattle.calls.specs.Called.{lent, refusalOf, roomFirst}
 use Rattle.grants.specs.Acquire.{Acquires}
 use Rattle.calls.proofs.Standing.{sized-by, whole, Standing, standing, is-so}
-use Rattle.calls.proofs.Ends.{ends-27, ends-8, ends-7}
+use Rattle.calls.proofs.Ends.{First, ends-27, ends-first, first-none}
 use Rattle.acquisition.proofs.Acquiring.{acquire-taken, stays-promised, moves-promised}
 use Rattle.acquisition.proofs.handle_acquisition.Statement.{statement}
 use Rattle.acquisition.proofs.handle_acquisition.Tie as tie
@@ -38,19 +40,44 @@ tested c = let s = begun c .args .t1 in c .is-sound .ensures s (whole s)
 stands : (c : tie.Else1) → Standing (begun (c .before) .args .t1)
 stands c = standing (begun (c .before) .args .t1) (sized (begun (c .before))) (tested (c .before)) (c .if1 .left)
 
-passed : (c : tie.Else3) → let e = begun (c .before .before .before .before) in 0 ≡ refusalOf (given e) (e .args .t1)
-passed c =
-    let e = begun (c .before .before .before .before) in
-    acquire-taken (length (e .args .room .now)) (e .args .acquisition .revision) (e .args .acquisition .granted) (e .args .t1)
-    (stands (c .before .before .before)) (c .before .before .if2 .left) (sym (c .before .is-proper .ensures) ∙ not-false (c .before .is-proper .result) (c .if3 .left))
+-- one proper tag
+alone : (b : Bool) → b ≡ (b && true)
+alone true = refl
+alone false = refl
 
-decided : (c : tie.After-acquire) → let e = begun (c .before .before .before .before .before) in
-    Acquires (e .args .acquisition .revision) (e .args .acquisition .granted) (e .args .t1) (c .acquire .result)
-decided c =
-    let p = c .before .before in
-    let e = begun (p .before .before .before) in
-    c .acquire .ensures (e .args .t1) (stands (p .before .before) .good)
-    (is-so (sym (p .is-proper .ensures) ∙ not-false (p .is-proper .result) (c .before .if3 .left))) refl refl refl
+-- the test of 8 and 7
+first : (c : tie.After-room-first) → let e = begun (c .before .before .before .before) in
+    First (given e) (e .args .t1) (c .before .before .is-proper .result) true (c .room-first .result)
+first c =
+    let e = begun (c .before .before .before .before) in
+    let p = c .before .before .is-proper .ensures in
+    record {
+      takes = refl;
+      proper = p ∙ alone (isProper (e .args .acquisition .granted));
+      known = refl;
+      is = c .room-first .ensures ∙ ap (roomFirst (length (e .args .room .now)) (e .args .t1 .count)) (c .before .tag-first .ensures);
+    }
+
+-- past both
+abbrev home : tie.Else2 → tie.Else1
+home c = c .before .before .before .before .before
+
+abbrev start : tie.Else2 → tie.Start
+start c = begun (home c .before)
+
+none : (c : tie.Else2) → (56 * (start c .args .t1 .count + 2) ≤ length (start c .args .room .now)) × (isProper (start c .args .acquisition .granted) ≡ true)
+none c =
+    let r = c .before .before in
+    let w = first-none (given (start c)) (start c .args .t1) (first r) (sym (c .before .refusal-number .ensures) ∙ c .if2 .left) in
+    (w .0, sym (r .before .before .is-proper .ensures) ∙ w .1)
+
+passed : (c : tie.Else2) → 0 ≡ refusalOf (given (start c)) (start c .args .t1)
+passed c =
+    let a = start c .args in
+    acquire-taken (length (a .room .now)) (a .acquisition .revision) (a .acquisition .granted) (a .t1) (stands (home c)) (none c .0) (none c .1)
+
+decided : (c : tie.After-acquire) → let a = start (c .before) .args in Acquires (a .acquisition .revision) (a .acquisition .granted) (a .t1) (c .acquire .result)
+decided c = c .acquire .ensures (start (c .before) .args .t1) (stands (home (c .before)) .good) (is-so (none (c .before) .1)) refl refl refl
 
 -- ---- 27
 
@@ -66,92 +93,87 @@ returns c =
     let e = begun d in
     ends-27 (given e) (e .args .t1) (e .args .room .now) refl (tested d) (c .before .if1 .taken) (c .with-reply .ensures)
 
--- ---- 8
+-- ---- 8 and 7
 
-add-if2 : tie.Need-add-if2
-add-if2 c = let n = stands c .few in omega arith
+is-proper-requires : tie.Need-is-proper-requires
+is-proper-requires c κs = tt
 
-mul-if2 : tie.Need-mul-if2
-mul-if2 c = let n = stands c .few in omega arith
+tag-first-requires : tie.Need-tag-first-requires
+tag-first-requires c κs = tt
+
+room-first-requires : tie.Need-room-first-requires
+room-first-requires c κs = stands (c .before .before) .few
+
+refusal-number-requires : tie.Need-refusal-number-requires
+refusal-number-requires c κs = tt
 
 with-reply-requires-2 : tie.Need-with-reply-requires-2
 with-reply-requires-2 c κs = tt
 
 returns-2 : tie.Need-returns-2
 returns-2 c =
-    let d = c .before .before in
-    let e = begun (d .before) in
-    ends-8 (given e) (e .args .t1) (e .args .room .now) refl (stands d .passing) refl (c .before .if2 .taken) (c .with-reply2 .ensures)
-
--- ---- 7
-
-is-proper-requires : tie.Need-is-proper-requires
-is-proper-requires c κs = tt
-
-with-reply-requires-3 : tie.Need-with-reply-requires-3
-with-reply-requires-3 c κs = tt
-
-returns-3 : tie.Need-returns-3
-returns-3 c =
-    let p = c .before .before in
-    let d = p .before .before in
-    let e = begun (d .before) in
-    ends-7 (given e) (e .args .t1) (e .args .room .now) refl (stands d .passing) (p .before .if2 .left)
-    (ap (λ b. b && true) (sym (p .is-proper .ensures) ∙ not-true (p .is-proper .result) (c .before .if3 .taken))) (c .with-reply3 .ensures)
+    let n = c .before .before in
+    let f = n .before in
+    let h = f .before .before .before in
+    let e = begun (h .before) in
+    ends-first (given e) (e .args .t1) (first f) (e .args .room .now) refl (stands h .passing) (λ z. c .before .if2 .taken (n .refusal-number .ensures ∙ z)) (c .with-reply2 .ensures)
 
 -- ---- taken: nothing more, or grants
 
 acquire-requires : tie.Need-acquire-requires
 acquire-requires c κs = tt
 
-with-reply-requires-4 : tie.Need-with-reply-requires-4
-with-reply-requires-4 c κs = tt
+with-reply-requires-3 : tie.Need-with-reply-requires-3
+with-reply-requires-3 c κs = tt
 
-returns-4 : tie.Need-returns-4
-returns-4 c =
+returns-3 : tie.Need-returns-3
+returns-3 c =
     let d = c .before .before .before .before .before .before in
     let q = d .before in
-    let e = begun (q .before .before .before .before) in
-    stays-promised (length (e .args .room .now)) (e .args .acquisition .revision) (e .args .acquisition .granted) (e .args .t1)
-    (stands (q .before .before .before)) (passed q) (d .acquire .result) (decided d)
-    (e .args .room .now) _ (not-true (d .acquire .result .grants) (c .before .if4 .taken)) (c .with-reply4 .ensures)
+    let a = start q .args in
+    stays-promised (length (a .room .now)) (a .acquisition .revision) (a .acquisition .granted) (a .t1) (stands (home q)) (passed q) (d .acquire .result) (decided d)
+    (a .room .now) _ (not-true (d .acquire .result .grants) (c .before .if3 .taken)) (c .with-reply3 .ensures)
 
 add-requires : tie.Need-add-requires
 add-requires c κs = search needs
 
+-- where the first record stands
+abbrev chosen : tie.After-add → tie.After-acquire
+chosen c = c .before .before .before .before .before .before .before .before
+
 add-grants-requires : tie.Need-add-grants-requires
 add-grants-requires c κs =
     let d = c .before .before .before .before .before .before .before .before .before in
-    let n = stands (d .before .before .before .before .before .before .before .before .before .before .before .before) .few in
+    let n = stands (home (chosen d .before)) .few in
     let k = d .add .ensures .1 in
     omega arith
+
+abbrev advanced : tie.After-add-grants → tie.After-add
+advanced c = c .before .before .before .before .before .before .before .before .before .before
 
 unpublished-requires : tie.Need-unpublished-requires
 unpublished-requires c κs =
     let w = c .before .before .before .before .before .before .before in
-    let f = w .before .before .before .before .before .before .before .before .before .before in
-    let n = stands (f .before .before .before .before .before .before .before .before .before .before .before .before) .few in
-    omega arith
+    stands (home (chosen (advanced w) .before)) .few
 
-with-reply-requires-5 : tie.Need-with-reply-requires-5
-with-reply-requires-5 c κs = tt
+with-reply-requires-4 : tie.Need-with-reply-requires-4
+with-reply-requires-4 c κs = tt
 
 same-length : tie.Need-same-length
 same-length c =
     let w = c .before .before .before .before .before .before .before .before .before in
-    w .add-grants .kept .0 ∙ w .before .before .before .before .before .before .before .before .before .before .add .kept .0
+    w .add-grants .kept .0 ∙ advanced w .add .kept .0
 
-returns-5 : tie.Need-returns-5
-returns-5 c =
+returns-4 : tie.Need-returns-4
+returns-4 c =
     let w = c .before .before .before .before .before .before .before .before .before in
-    let f = w .before .before .before .before .before .before .before .before .before .before in
-    let d = f .before .before .before .before .before .before .before .before in
+    let f = advanced w in
+    let d = chosen f in
     let q = d .before in
-    let e = begun (q .before .before .before .before) in
-    moves-promised (length (e .args .room .now)) (e .args .acquisition .revision) (e .args .acquisition .granted) (e .args .t1)
-    (stands (q .before .before .before)) (passed q) (d .acquire .result) (decided d)
-    (e .args .room .now) _ _ _ _ _ _ (q .before .before .if2 .left) (not-false (d .acquire .result .grants) (f .before .before .before .if4 .left))
-    (f .add .ensures .0) (w .add-grants .ensures) (c .before .unpublished .ensures) (c .with-reply5 .ensures)
+    let a = start q .args in
+    moves-promised (length (a .room .now)) (a .acquisition .revision) (a .acquisition .granted) (a .t1) (stands (home q)) (passed q) (d .acquire .result) (decided d)
+    (a .room .now) _ _ _ _ _ _ (none q .0) (not-false (d .acquire .result .grants) (f .before .before .before .if3 .left))
+    (f .add .ensures .0) (w .add-grants .ensures) (c .before .unpublished .ensures) (c .with-reply4 .ensures)
 
 pub handle-acquisition-spec : {M : Type 1} → statement M
 handle-acquisition-spec =
@@ -160,19 +182,18 @@ handle-acquisition-spec =
     is-sound-requires
     with-reply-requires
     returns
-    add-if2
-    mul-if2
+    is-proper-requires
+    tag-first-requires
+    room-first-requires
+    refusal-number-requires
     with-reply-requires-2
     returns-2
-    is-proper-requires
+    acquire-requires
     with-reply-requires-3
     returns-3
-    acquire-requires
-    with-reply-requires-4
-    returns-4
     add-requires
     add-grants-requires
     unpublished-requires
-    with-reply-requires-5
+    with-reply-requires-4
     same-length
-    returns-5)
+    returns-4)
