@@ -18,7 +18,6 @@ use Rattle.events.specs.declared.ReadMark.{ReadMark}
 use Rattle.events.specs.declared.ReadMark.the-variants.{NotMark, Mark}
 use Rattle.events.specs.declared.ReadObservation.{ReadObservation}
 use Rattle.events.specs.declared.ReadObservation.the-variants.{NotObservation, Observing}
-use Rattle.events.specs.declared.Named.{Named}
 use Rattle.events.specs.Events.{eventOf}
 
 -- ---- events
@@ -122,9 +121,6 @@ toldObservation (Observing o) = some o
 abbrev pub isGiven : Option Call → Bool
 isGiven none = false
 isGiven (some c) = true
-
-abbrev pub namedOf : Option Call → Named
-namedOf c = record { good = isGiven c; count = length (namedIn c); enclaves = padded 32 (namedIn c) }
 
 -- the fields of a line after the space at this place; none where the line has ended
 unfoldable pub fieldsFrom : ℕ → List ℕ → List (List ℕ)

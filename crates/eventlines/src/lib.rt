@@ -1,0 +1,232 @@
+// Event lines (document 01, "Script and its listing"; "message dispatch, choosing by kind number"): the event that a line tells.
+// New here: the Rust reads no script. A line that is no event is told as none; nothing else is refused.
+ghost use mathlib.Core.Path.{_≡_};
+ghost use mathlib.Core.List.{_∷_};
+ghost use Prim.Native.Nat.{_+_, _≤_, _<_};
+ghost use mathlib.Core.Bool.{cond};
+ghost use mathlib.Core.Option.{none, some};
+ghost use lib.ListN.{length, drop};
+ghost use Rattle.bytes.specs.Runs.{sameBytes};
+ghost use Rattle.numerals.specs.Numerals.{space};
+ghost use Rattle.numerals.specs.Told.{until};
+ghost use Rattle.events.specs.Events.{eventNumber, listed, inputOf, byFields, eventOf};
+ghost use Rattle.events.specs.Events.{withoutFields, withOneField, withTwoFields, withThreeFields};
+ghost use Rattle.events.specs.Told.{toldEvent, eventFor, enclavesOf, fieldsFrom};
+ghost use Rattle.eventlines.specs.Named.{namedOf};
+use events::Event;
+use events::ReadWord;
+use records::OptionalNumber;
+
+// What the fields of an `input` line name: whether they are good, how many enclaves, and these, with 0 after them.
+struct Named {
+    good: bool,
+    count: usize,
+    enclaves: [u32; 32],
+}
+
+fn numbered(w: &[u8], name: &[u8], number: u8, other: u8) -> u8
+    ensures { λ r. ⌜ r ≡ cond (sameBytes (now (w .entry)) (now (name .entry))) number other ⌝ }
+{
+    if bytes::same_bytes(w, name) {
+        return number;
+    }
+    other
+}
+
+fn event_number(w: &[u8]) -> u8
+    ensures { λ r. ⌜ r ≡ eventNumber (now (w .entry)) ⌝ }
+{
+    let k17 = numbered(w, b"progress", 17, 0);
+    let k16 = numbered(w, b"input", 16, k17);
+    let k15 = numbered(w, b"done", 15, k16);
+    let k14 = numbered(w, b"late", 14, k15);
+    let k13 = numbered(w, b"begin", 13, k14);
+    let k12 = numbered(w, b"horizon", 12, k13);
+    let k11 = numbered(w, b"stop", 11, k12);
+    let k10 = numbered(w, b"idle", 10, k11);
+    let k9 = numbered(w, b"observe", 9, k10);
+    let k8 = numbered(w, b"sent", 8, k9);
+    let k7 = numbered(w, b"acquire", 7, k8);
+    let k6 = numbered(w, b"failed", 6, k7);
+    let k5 = numbered(w, b"stopped", 5, k6);
+    let k4 = numbered(w, b"observed", 4, k5);
+    let k3 = numbered(w, b"complete", 3, k4);
+    let k2 = numbered(w, b"publish", 2, k3);
+    numbered(w, b"active", 1, k2)
+}
+
+fn without_fields(kind: u8) -> Event
+    ensures { λ r. ⌜ r ≡ eventFor (withoutFields kind) ⌝ }
+{
+    match kind {
+        11 => Event::Stop,
+        17 => Event::Progress,
+        0..=10 | 12..=16 | 18..=255 => Event::NoEvent,
+    }
+}
+
+fn with_one_field(kind: u8, a: &[u8]) -> Event
+    ensures { λ r. ⌜ r ≡ eventFor (withOneField kind (now (a .entry))) ⌝ }
+{
+    match kind {
+        1 => events::active_event(events::word(a)),
+        5 => events::stopped_event(events::word(a)),
+        6 => events::failed_event(events::enclave_or_none(a)),
+        10 => events::idle_event(events::wide(a)),
+        12 => events::horizon_event(numerals::optional_tag(a)),
+        0 | 2..=4 | 7..=9 | 11 | 13..=255 => Event::NoEvent,
+    }
+}
+
+fn with_two_fields(kind: u8, a: &[u8], b: &[u8]) -> Event
+    ensures { λ r. ⌜ r ≡ eventFor (withTwoFields kind (now (a .entry)) (now (b .entry))) ⌝ }
+{
+    match kind {
+        2 => events::publish_event(events::word(a), numerals::optional_tag(b)),
+        4 => events::observed_event(events::word(a), events::wide(b)),
+        7 => events::acquire_event(events::wide(a), numerals::tag(b)),
+        13 => events::begin_event(events::word(a), numerals::tag(b)),
+        14 => events::late_event(events::word(a), numerals::tag(b)),
+        15 => events::done_event(events::word(a), numerals::tag(b)),
+        0..=1 | 3 | 5..=6 | 8..=12 | 16..=255 => Event::NoEvent,
+    }
+}
+
+fn with_three_fields(kind: u8, a: &[u8], b: &[u8], c: &[u8]) -> Event
+    ensures { λ r. ⌜ r ≡ eventFor (withThreeFields kind (now (a .entry)) (now (b .entry)) (now (c .entry))) ⌝ }
+{
+    match kind {
+        3 => events::complete_event(events::word(a), numerals::tag(b), events::mark(c)),
+        8 => events::sent_event(
+            events::wide(a),
+            numerals::optional_tag(b),
+            numerals::optional_tag(c),
+        ),
+        9 => events::observe_event(events::word(a), events::wide(b), events::observation(c)),
+        0..=2 | 4..=7 | 10..=255 => Event::NoEvent,
+    }
+}
+
+// Where the field after the space at this place ends.
+fn field_end(line: &[u8], at: usize) -> usize
+    requires { ⌜ at < length (now line) ⌝ }
+    ensures { λ r. ⌜ (r ≡ at + 1 + until space (drop (at + 1) (now (line .entry)))) × (r ≤ length (now (line .entry))) ⌝ }
+{
+    at + 1 + numerals::find(&line[at + 1..], 32)
+}
+
+fn after_two(kind: u8, a: &[u8], b: &[u8], line: &[u8], at: usize) -> Event
+    ensures { λ r. ⌜ r ≡ eventFor (byFields kind (now (a .entry) ∷ now (b .entry) ∷ fieldsFrom at (now (line .entry)))) ⌝ }
+{
+    if line.len() <= at {
+        return with_two_fields(kind, a, b);
+    }
+    let end = field_end(line, at);
+    if end < line.len() {
+        return Event::NoEvent;
+    }
+    with_three_fields(kind, a, b, &line[at + 1..end])
+}
+
+fn after_one(kind: u8, a: &[u8], line: &[u8], at: usize) -> Event
+    ensures { λ r. ⌜ r ≡ eventFor (byFields kind (now (a .entry) ∷ fieldsFrom at (now (line .entry)))) ⌝ }
+{
+    if line.len() <= at {
+        return with_one_field(kind, a);
+    }
+    let end = field_end(line, at);
+    after_two(kind, a, &line[at + 1..end], line, end)
+}
+
+fn with_fields(kind: u8, line: &[u8], at: usize) -> Event
+    ensures { λ r. ⌜ r ≡ eventFor (byFields kind (fieldsFrom at (now (line .entry)))) ⌝ }
+{
+    if line.len() <= at {
+        return without_fields(kind);
+    }
+    let end = field_end(line, at);
+    after_one(kind, &line[at + 1..end], line, end)
+}
+
+fn unnamed() -> Named
+    ensures { λ r. ⌜ r ≡ namedOf none ⌝ }
+{
+    Named {
+        good: false,
+        count: 0,
+        enclaves: [0; 32],
+    }
+}
+
+fn listed_enclaves(line: &[u8], from: usize, n: usize) -> Named
+    requires { ⌜ n ≤ 32 ⌝ }
+    ensures { λ r. ⌜ r ≡ namedOf (listed (some n) (fieldsFrom from (now (line .entry)))) ⌝ }
+{
+    let mut enclaves: [u32; 32] = [0; 32];
+    let mut count: usize = 0;
+    let mut at = from;
+    while at < line.len() {
+        if n <= count {
+            return unnamed();
+        }
+        let end = field_end(line, at);
+        let w = events::word(&line[at + 1..end]);
+        let ReadWord::Word(e) = w else {
+            return unnamed();
+        };
+        enclaves[count] = e;
+        count += 1;
+        at = end;
+    }
+    if count < n {
+        return unnamed();
+    }
+    Named {
+        good: true,
+        count,
+        enclaves,
+    }
+}
+
+fn input_fields(line: &[u8], at: usize) -> Named
+    ensures { λ r. ⌜ r ≡ namedOf (inputOf (fieldsFrom at (now (line .entry)))) ⌝ }
+{
+    if line.len() <= at {
+        return unnamed();
+    }
+    let end = field_end(line, at);
+    let n = numerals::number(&line[at + 1..end], 32);
+    match n {
+        OptionalNumber::NoNumber => unnamed(),
+        OptionalNumber::Number(k) => listed_enclaves(line, end, k as usize),
+    }
+}
+
+// The event that a line, without its LF, tells.
+pub fn read_event(line: &[u8]) -> Event
+    ensures { λ r. ⌜ toldEvent r (enclavesOf (now (line .entry))) ≡ eventOf (now (line .entry)) ⌝ }
+{
+    let first = numerals::find(line, 32);
+    let kind = event_number(&line[..first]);
+    if kind == 16 {
+        let fields = input_fields(line, first);
+        if fields.good {
+            return Event::Input(fields.count);
+        }
+        return Event::NoEvent;
+    }
+    with_fields(kind, line, first)
+}
+
+// The enclaves that the line names if it is an `input`, and 0 in every place after them.
+pub fn enclaves(line: &[u8]) -> [u32; 32]
+    ensures { λ r. ⌜ r ≡ enclavesOf (now (line .entry)) ⌝ }
+{
+    let first = numerals::find(line, 32);
+    let kind = event_number(&line[..first]);
+    if kind != 16 {
+        return [0; 32];
+    }
+    let fields = input_fields(line, first);
+    fields.enclaves
+}
