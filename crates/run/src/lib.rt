@@ -126,12 +126,11 @@ fn step(
     requires { ⌜ written + 5600 ≤ length (now out) ⌝ }
     ensures { λ r. ⌜ StepsBy (item eventOf (now (script .entry)) at) state at number written (now (out .entry)) (now (out .exit)) r ⌝ }
 {
-    let end = script::end_of(script, at);
-    if script.len() <= end {
+    if !reader::is_ended(script, at) {
         return stays(state, at, written);
     }
-    let after = end + 1;
-    let line = script::line_at(script, at);
+    let line = reader::line_from(script, at);
+    let after = reader::place_after(script, at);
     if !script::is_event(line) {
         return stays(state, at, written);
     }

@@ -1,23 +1,24 @@
 -- Laws of the items of a script: when the line at a place is good and when it is bad, how many items are read, and that so many and then so many more
 -- are read one after the other. Assumes nothing.
 use mathlib.Core.Path.{_≡_, refl, sym, ap, _∙_}
-use mathlib.Core.Bool.{Bool, true, false, cond}
+use mathlib.Core.Bool.{Bool, true, false, not, cond}
 use mathlib.Core.List.{List, [], _∷_, _++_}
 use mathlib.Core.Option.{Option, none, some}
-use Prim.Native.Nat.{ℕ, zero, suc, _+_, _<_, _≤_}
+use Prim.Native.Nat.{ℕ, zero, suc, _+_, _<_}
 use native.Mathlib.Nat.{zero-add, suc-add}
 use native.Mathlib.Omega.{arith}
-use borrow.Author.Tests.{lt-ltb, le-ltb, ltb-true}
+use borrow.Author.Tests.{ltb-true, not-true, not-false}
 use lib.Dec.{ltb}
 use lib.ListN.{length}
-use Rattle.script.specs.Lines.{endOf, lineAt, Reading, Bad, Good, andThen, orBad, item, items}
+use Rattle.reader.specs.Lines.{endOf, lineAt, nextAt}
+use Rattle.script.specs.Lines.{Reading, Bad, Good, andThen, orBad, item, items}
 
 -- ---- one item
 
 module _ {X : Type 0} (read : List ℕ → Option X) (script : List ℕ) (at : ℕ) where
-  pub item-unended : (end : ℕ) → end ≡ endOf script at → length script ≤ end → item read script at ≡ Bad at
+  pub item-unended : (ended : Bool) → ended ≡ ltb (endOf script at) (length script) → not ended ≡ true → item read script at ≡ Bad at
   unfolding item
-  item-unended end e h = rw (le-ltb (endOf script at) (length script) (omega arith)) refl
+  item-unended ended e h = rw (sym e, not-true ended h) refl
 
   pub item-none : read (lineAt script at) ≡ none → item read script at ≡ Bad at
   unfolding item
@@ -27,10 +28,10 @@ module _ {X : Type 0} (read : List ℕ → Option X) (script : List ℕ) (at : �
       by true = refl
       by false = refl
 
-  pub item-good : (end : ℕ) (x : X) → end ≡ endOf script at → end < length script → read (lineAt script at) ≡ some x
-      → item read script at ≡ Good x (end + 1)
+  pub item-good : (ended : Bool) (next : ℕ) (x : X) → ended ≡ ltb (endOf script at) (length script) → not ended ≡ false → next ≡ nextAt script at
+      → read (lineAt script at) ≡ some x → item read script at ≡ Good x next
   unfolding item
-  item-good end x e h r = rw (lt-ltb (endOf script at) (length script) (omega arith), r, e) refl
+  item-good ended next x e h n r = rw (n, r, sym e, not-false ended h) refl
 
   -- an item is what its line is read as
   pub item-line : (o : Option X) → o ≡ read (lineAt script at) → item (λ line. o) script at ≡ item read script at

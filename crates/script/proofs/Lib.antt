@@ -1,4 +1,3 @@
-pub mod Lines
 pub mod Headers
 pub mod Items
 pub mod Turns

@@ -1,20 +1,22 @@
 -- One turn of each loop over the lines of a section, on plain values: what is read of the rest from here is what is read of all. Assumes nothing.
 use mathlib.Core.Path.{_≡_, refl, sym, ap, _∙_}
-use mathlib.Core.Bool.{Bool, true, false}
+use mathlib.Core.Bool.{Bool, true, false, not}
 use mathlib.Core.List.{List, [], _∷_}
 use mathlib.Core.Option.{Option, none, some}
 use Prim.Native.Nat.{ℕ, zero, suc, _+_, _-_, _<_, _≤_, min}
 use native.Mathlib.Numerals.{add-one}
 use native.Mathlib.Omega.{arith}
+use lib.Dec.{ltb}
 use lib.ListN.{length, set, replicate, length-set}
 use lib.Seq.{sets}
+use Rattle.reader.specs.Lines.{endOf, lineAt, nextAt}
 use Rattle.rules.specs.Model.{Call}
 use Rattle.events.specs.declared.Event.{Event}
 use Rattle.events.specs.Events.{eventOf}
 use Rattle.events.specs.Told.{toldEvent, enclavesOf, isGiven, padded}
 use Rattle.script.specs.declared.Participants.{Participants}
 use Rattle.script.specs.declared.Passed.the-variants.{BadAt, EndsAt}
-use Rattle.script.specs.Lines.{endOf, lineAt, Reading, Bad, Good, item, items}
+use Rattle.script.specs.Lines.{Reading, Bad, Good, item, items}
 use Rattle.script.specs.Told.{passedOf, gathered}
 use Rattle.script.proofs.Items.{item-none, item-good, before, items-first, items-bad}
 
@@ -30,12 +32,13 @@ module _ (script : List ℕ) (at : ℕ) (line : List ℕ) (is : line ≡ lineAt 
   here : b ≡ isGiven (eventOf (lineAt script at))
   here = tells ∙ ap (λ l. isGiven (eventOf l)) is
 
-  pub pass-event : (end : ℕ) → end ≡ endOf script at → end < length script → b ≡ true → EndsAt (end + 1) ≡ passedOf (item eventOf script at)
-  pass-event end q h t = by (eventOf (lineAt script at)) refl (sym t ∙ here)
+  pub pass-event : (ended : Bool) (next : ℕ) → ended ≡ ltb (endOf script at) (length script) → not ended ≡ false → next ≡ nextAt script at → b ≡ true
+      → EndsAt next ≡ passedOf (item eventOf script at)
+  pass-event ended next e h n t = by (eventOf (lineAt script at)) refl (sym t ∙ here)
     where
-      by : (o : Option Call) → eventOf (lineAt script at) ≡ o → true ≡ isGiven o → EndsAt (end + 1) ≡ passedOf (item eventOf script at)
+      by : (o : Option Call) → eventOf (lineAt script at) ≡ o → true ≡ isGiven o → EndsAt next ≡ passedOf (item eventOf script at)
       by none r s = let z : _≡_ {A = ℕ} 0 1 = cc in absurd (omega arith)
-      by (some x) r s = rw (item-good eventOf script at end x q h r) refl
+      by (some x) r s = rw (item-good eventOf script at ended next x e h n r) refl
 
   pub pass-no-event : b ≡ false → BadAt at ≡ passedOf (item eventOf script at)
   pass-no-event f = by (eventOf (lineAt script at)) refl (sym f ∙ here)

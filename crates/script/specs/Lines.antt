@@ -1,24 +1,12 @@
--- Document 01, "Script and its listing": the lines of a script, from a place in it, and what is read of them in order. "One item a line, LF-ended";
+-- Document 01, "Script and its listing": what is read of the lines of a script, from a place in it, in order. "One item a line, LF-ended";
 -- "11 names the first byte of the first bad line .., or the length if a line is lacking." Assumes nothing.
 use Prim.Native.Nat.{ℕ, zero, suc, _+_}
-use mathlib.Core.Bool.{Bool, cond}
+use mathlib.Core.Bool.{cond}
 use mathlib.Core.List.{List, [], _∷_}
 use mathlib.Core.Option.{Option, none, some}
-use lib.Dec.{eqb, ltb}
-use lib.ListN.{length, take, drop}
-
--- how many bytes stand before the first LF, or in all
-abbrev pub lineLength : List ℕ → ℕ
-lineLength [] = 0
-lineLength (b ∷ bs) = cond (eqb b 10) 0 (suc (lineLength bs))
-
--- the line at a place, without its LF
-abbrev pub lineAt : List ℕ → ℕ → List ℕ
-lineAt script at = take (lineLength (drop at script)) (drop at script)
-
--- where that line ends: at its LF, or with the script
-abbrev pub endOf : List ℕ → ℕ → ℕ
-endOf script at = at + lineLength (drop at script)
+use lib.Dec.{ltb}
+use lib.ListN.{length}
+use Rattle.reader.specs.Lines.{lineAt, endOf}
 
 -- something read, with the place after it; or the place of the bad line
 pub data Reading (X : Type 0) : Type 0 where

@@ -1,16 +1,15 @@
-// Scripts (document 01, "Script and its listing"): the lines of a script by their places, and the reading of its three sections.
+// Scripts (document 01, "Script and its listing"): the reading of a script's three sections, line by line from its reader.
 // New here: the Rust has no scripts. Over 65,536 bytes are refused 12, and 11 names the place of the first bad line. The events are
 // read for their form alone: a run reads them again, line by line, from `events_at` on.
 ghost use mathlib.Core.Path.{_≡_};
 ghost use mathlib.Core.List.{List};
 ghost use Prim.Native.Nat.{ℕ, _-_, _^_, _≤_};
-ghost use lib.Dec.{ltb};
 ghost use lib.ListN.{length, set, replicate};
 ghost use Rattle.numerals.specs.Numerals.{numberOf};
 ghost use Rattle.numerals.specs.Told.{toldNumber};
 ghost use Rattle.events.specs.Events.{wordOf, eventOf};
 ghost use Rattle.events.specs.Told.{isGiven};
-ghost use Rattle.script.specs.Lines.{endOf, lineAt, item, items};
+ghost use Rattle.script.specs.Lines.{item, items};
 ghost use Rattle.script.specs.Script.{headerOf, isThree, settingsOf, policyOf, eventsOf, settingsAndEventsOf};
 ghost use Rattle.script.specs.Read.{refusedAt, answered, readScriptOf};
 ghost use Rattle.script.specs.Told.{toldCount, toldChoice, passedOf, gathered, Kept};
@@ -58,38 +57,6 @@ struct Participants {
     count: usize,
 }
 
-// ---- lines
-
-// Where the line at a place ends: at its LF, or with the script; at the place itself if that is past the script.
-pub fn end_of(script: &[u8], at: usize) -> usize
-    ensures { λ r. ⌜ r ≡ endOf (now (script .entry)) at ⌝ }
-{
-    if script.len() <= at {
-        return at;
-    }
-    let length = numerals::find(&script[at..], 10);
-    at + length
-}
-
-// Whether the line at a place has its LF.
-pub fn is_ended(script: &[u8], at: usize) -> bool
-    ensures { λ r. ⌜ r ≡ ltb (endOf (now (script .entry)) at) (length (now (script .entry))) ⌝ }
-{
-    let end = end_of(script, at);
-    end < script.len()
-}
-
-// The line at a place, without its LF, as that part of the script; none is past the script.
-pub fn line_at(script: &[u8], at: usize) -> &[u8]
-    ensures { λ r. ⌜ now r ≡ lineAt (now (script .entry)) at ⌝ }
-{
-    let end = end_of(script, at);
-    if at <= script.len() {
-        return &script[at..end];
-    }
-    &script[0..0]
-}
-
 // ---- items
 
 // The count that a line tells after this word, at most so many.
@@ -128,20 +95,20 @@ fn only_three(read: OptionalNumber) -> OptionalNumber
 fn count_at(script: &[u8], at: usize, read: OptionalNumber) -> Counted
     ensures { λ r. ⌜ toldCount at r ≡ item (λ line. toldNumber read) (now (script .entry)) at ⌝ }
 {
-    let end = end_of(script, at);
-    if script.len() <= end {
+    if !reader::is_ended(script, at) {
         return Counted::BadLine;
     }
     let OptionalNumber::Number(n) = read else {
         return Counted::BadLine;
     };
-    Counted::Count(n, end + 1)
+    let next = reader::place_after(script, at);
+    Counted::Count(n, next)
 }
 
 fn header_at(script: &[u8], at: usize, word: &[u8], most: u64) -> Counted
     ensures { λ r. ⌜ toldCount at r ≡ item (headerOf (now (word .entry)) most) (now (script .entry)) at ⌝ }
 {
-    let line = line_at(script, at);
+    let line = reader::line_from(script, at);
     let read = header(line, word, most);
     count_at(script, at, read)
 }
@@ -149,7 +116,7 @@ fn header_at(script: &[u8], at: usize, word: &[u8], most: u64) -> Counted
 fn settings_at(script: &[u8], at: usize) -> Counted
     ensures { λ r. ⌜ toldCount at r ≡ item settingsOf (now (script .entry)) at ⌝ }
 {
-    let line = line_at(script, at);
+    let line = reader::line_from(script, at);
     let read = only_three(header(line, b"settings", 4294967295));
     count_at(script, at, read)
 }
@@ -157,7 +124,7 @@ fn settings_at(script: &[u8], at: usize) -> Counted
 fn number_at(script: &[u8], at: usize, most: u64) -> Counted
     ensures { λ r. ⌜ toldCount at r ≡ item (numberOf most) (now (script .entry)) at ⌝ }
 {
-    let line = line_at(script, at);
+    let line = reader::line_from(script, at);
     let read = numerals::number(line, most);
     count_at(script, at, read)
 }
@@ -165,12 +132,11 @@ fn number_at(script: &[u8], at: usize, most: u64) -> Counted
 fn policy_at(script: &[u8], at: usize) -> Chosen
     ensures { λ r. ⌜ toldChoice at r ≡ item policyOf (now (script .entry)) at ⌝ }
 {
-    let end = end_of(script, at);
-    if script.len() <= end {
+    if !reader::is_ended(script, at) {
         return Chosen::NoChoice;
     }
-    let next = end + 1;
-    let line = line_at(script, at);
+    let line = reader::line_from(script, at);
+    let next = reader::place_after(script, at);
     if bytes::same_bytes(line, b"keep") {
         return Chosen::Choice(LifecyclePolicy::KeepAlive, next);
     }
@@ -213,12 +179,11 @@ pub fn is_event(line: &[u8]) -> bool
 fn pass_event(script: &[u8], at: usize) -> Passed
     ensures { λ r. ⌜ r ≡ passedOf (item eventOf (now (script .entry)) at) ⌝ }
 {
-    let end = end_of(script, at);
-    if script.len() <= end {
+    if !reader::is_ended(script, at) {
         return Passed::BadAt(at);
     }
-    let next = end + 1;
-    let line = line_at(script, at);
+    let line = reader::line_from(script, at);
+    let next = reader::place_after(script, at);
     if is_event(line) {
         return Passed::EndsAt(next);
     }

@@ -8,8 +8,8 @@ use borrow.Author.Needs.{needs}
 use Rattle.run.proofs.step.Statement.{statement}
 use Rattle.run.proofs.step.Tie as tie
 
-end-of-requires : tie.Need-end-of-requires
-end-of-requires c κs = search needs
+is-ended-requires : tie.Need-is-ended-requires
+is-ended-requires c κs = search needs
 
 stays-requires : tie.Need-stays-requires
 stays-requires c κs = search needs
@@ -17,13 +17,13 @@ stays-requires c κs = search needs
 returns : tie.Need-returns
 returns c =
     let a = c .before .before .before .before .before .args in
-    unended (a .script .now) (a .at) (a .state) (a .number) (a .written) (a .out .now) _ (c .stays .ensures) _ (c .before .before .end-of .ensures) (c .before .if1 .taken)
+    unended (a .script .now) (a .at) (a .state) (a .number) (a .written) (a .out .now) _ (c .stays .ensures) _ (c .before .before .is-ended .ensures) (c .before .if1 .taken)
 
-add-after : tie.Need-add-after
-add-after c = search needs
+line-from-requires : tie.Need-line-from-requires
+line-from-requires c κs = search needs
 
-line-at-requires : tie.Need-line-at-requires
-line-at-requires c κs = search needs
+place-after-requires : tie.Need-place-after-requires
+place-after-requires c κs = search needs
 
 is-event-requires : tie.Need-is-event-requires
 is-event-requires c κs = search needs
@@ -33,9 +33,11 @@ stays-requires-2 c κs = search needs
 
 returns-2 : tie.Need-returns-2
 returns-2 c =
-    let a = c .before .before .before .before .before .before .before .before .args in
+    let event = c .before .before in
+    let line = event .before .before in
+    let a = line .before .before .before .before .before .args in
     no-event (a .script .now) (a .at) (a .state) (a .number) (a .written) (a .out .now) _ (c .stays2 .ensures)
-    (ap (λ l. isGiven (eventOf l)) (sym (c .before .before .before .line-at .ensures)) ∙ sym (c .before .before .is-event .ensures) ∙ not-true _ (c .before .if2 .taken))
+    (ap (λ l. isGiven (eventOf l)) (sym (line .line-from .ensures)) ∙ sym (event .is-event .ensures) ∙ not-true _ (c .before .if2 .taken))
 
 read-event-requires : tie.Need-read-event-requires
 read-event-requires c κs = search needs
@@ -54,24 +56,32 @@ same-length c = search needs
 
 returns-3 : tie.Need-returns-3
 returns-3 c =
-    let a = c .before .before .before .before .before .before .before .before .before .before .before .before .before .before .before .args in
-    let line = c .before .before .before .before .before .before .before .before .before .before .line-at .ensures in
-    let event = c .before .before .before .before .before .before .before .read-event .result in
-    an-event (a .script .now) (a .at) (a .state) (a .number) (a .written) (a .out .now) _ event _ _ (c .before .before .before .before .before .before .before .before .before .before .before .before .end-of .ensures) (c .before .before .before .before .before .before .before .before .before .before .before .if1 .left)
-    (subst (λ l. toldEvent event (enclavesOf l) ≡ eventOf l) line (c .before .before .before .before .before .before .before .read-event .ensures))
-    _ (c .before .before .before .before .before .before .enclaves .ensures ∙ ap enclavesOf line)
-    (ap (λ l. isGiven (eventOf l)) (sym line) ∙ sym (c .before .before .before .before .before .before .before .before .before .is-event .ensures) ∙ not-false _ (c .before .before .before .before .before .before .before .before .if2 .left))
-    (c .before .before .before .list-event .ensures)
+    let listed = c .before .before .before in
+    let enclaves = listed .before .before .before in
+    let read = enclaves .before in
+    let isEvent = read .before in
+    let after = isEvent .before .before in
+    let line = after .before in
+    let test = line .before in
+    let ended = test .before in
+    let a = ended .before .before .before .args in
+    let event = read .read-event .result in
+    let here = line .line-from .ensures in
+    an-event (a .script .now) (a .at) (a .state) (a .number) (a .written) (a .out .now) _ event _ _ (ended .is-ended .ensures) (test .if1 .left)
+    _ (after .place-after .ensures) (subst (λ l. toldEvent event (enclavesOf l) ≡ eventOf l) here (read .read-event .ensures))
+    _ (enclaves .enclaves .ensures ∙ ap enclavesOf here)
+    (ap (λ l. isGiven (eventOf l)) (sym here) ∙ sym (isEvent .before .is-event .ensures) ∙ not-false _ (isEvent .if2 .left))
+    (listed .list-event .ensures)
 
 pub step-spec : {M : Type 1} → statement M
 step-spec =
     tie.close
     (tie.spec
-    end-of-requires
+    is-ended-requires
     stays-requires
     returns
-    add-after
-    line-at-requires
+    line-from-requires
+    place-after-requires
     is-event-requires
     stays-requires-2
     returns-2

@@ -6,11 +6,11 @@ use Rattle.script.proofs.Items.{item-unended, item-none, item-good}
 use Rattle.script.proofs.count_at.Statement.{statement}
 use Rattle.script.proofs.count_at.Tie as tie
 
-end-of-requires : tie.Need-end-of-requires
-end-of-requires c κs = search needs
+is-ended-requires : tie.Need-is-ended-requires
+is-ended-requires c κs = search needs
 
 returns : tie.Need-returns
-returns c = sym (item-unended _ _ _ _ (c .before .end-of .ensures) (c .if1 .taken))
+returns c = sym (item-unended _ _ _ _ (c .before .is-ended .ensures) (c .if1 .taken))
 
 enum-known-read : tie.Need-enum-known-read
 enum-known-read c = search needs
@@ -21,15 +21,16 @@ enum-told c = search needs
 returns-2 : tie.Need-returns-2
 returns-2 c = sym (item-none _ _ _ (ap toldNumber (c .enum-told .given .1)))
 
-add-t6 : tie.Need-add-t6
-add-t6 c = search needs
+place-after-requires : tie.Need-place-after-requires
+place-after-requires c κs = search needs
 
 returns-3 : tie.Need-returns-3
 returns-3 c =
-    let d = c .before .before .before in
-    sym (item-good _ _ _ _ _ (d .before .end-of .ensures) (d .if1 .left) (ap toldNumber (c .before .read .given .1)))
+    let known = c .before .before in
+    let test = known .before .before in
+    sym (item-good _ _ _ _ _ _ (test .before .is-ended .ensures) (test .if1 .left) (c .place-after .ensures) (ap toldNumber (known .read .given .1)))
 
 pub count-at-spec : {M : Type 1} → statement M
 count-at-spec =
     tie.close
-    (tie.spec end-of-requires returns enum-known-read enum-told returns-2 add-t6 returns-3)
+    (tie.spec is-ended-requires returns enum-known-read enum-told returns-2 place-after-requires returns-3)

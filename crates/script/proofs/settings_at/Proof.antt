@@ -6,8 +6,8 @@ use Rattle.script.proofs.Items.{item-line}
 use Rattle.script.proofs.settings_at.Statement.{statement}
 use Rattle.script.proofs.settings_at.Tie as tie
 
-line-at-requires : tie.Need-line-at-requires
-line-at-requires c κs = search needs
+line-from-requires : tie.Need-line-from-requires
+line-from-requires c κs = search needs
 
 slice-aggregate-header : tie.Need-slice-aggregate-header
 slice-aggregate-header c = search needs
@@ -24,14 +24,14 @@ count-at-requires c κs = search needs
 returns : tie.Need-returns
 returns c =
     let header = c .before .before in
-    let reads = header .header .ensures ∙ ap (headerOf _ _) (header .before .before .line-at .ensures) in
+    let reads = header .header .ensures ∙ ap (headerOf _ _) (header .before .before .line-from .ensures) in
     c .count-at .ensures ∙ item-line _ _ _ _ (c .before .only-three .ensures ∙ ap isThree reads)
 
 pub settings-at-spec : {M : Type 1} → statement M
 settings-at-spec =
     tie.close
     (tie.spec
-    line-at-requires
+    line-from-requires
     slice-aggregate-header
     header-requires
     only-three-requires

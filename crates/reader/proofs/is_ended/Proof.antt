@@ -1,8 +1,8 @@
--- `script::is_ended` tells whether the line ends before the script does. Assumes nothing.
+-- `reader::is_ended` tells whether the line ends before the script does. Assumes nothing.
 use mathlib.Core.Path.{refl}
 use borrow.Author.Needs.{needs}
-use Rattle.script.proofs.is_ended.Statement.{statement}
-use Rattle.script.proofs.is_ended.Tie as tie
+use Rattle.reader.proofs.is_ended.Statement.{statement}
+use Rattle.reader.proofs.is_ended.Tie as tie
 
 end-of-requires : tie.Need-end-of-requires
 end-of-requires c κs = search needs

@@ -1,14 +1,15 @@
 -- Laws of the lines of a script: how long the line from a place on is, that it ends within the script, and that it is a part of it. Assumes nothing.
-use mathlib.Core.Path.{_≡_, refl, sym, ap, _∙_}
+use mathlib.Core.Path.{_≡_, refl, ap, _∙_}
 use mathlib.Core.Bool.{Bool, true, false, cond}
 use mathlib.Core.List.{List, [], _∷_}
-use Prim.Native.Nat.{ℕ, suc, _+_, _-_, _≤_, zero-le, suc-le-suc}
+use Prim.Native.Nat.{ℕ, suc, _+_, _-_, _<_, _≤_, zero-le, suc-le-suc}
 use native.Mathlib.Omega.{arith}
+use borrow.Author.Tests.{lt-ltb, le-ltb}
 use lib.Dec.{eqb}
 use lib.ListN.{length, take, drop, length-drop, drop-of-length-le}
 use Rattle.numerals.specs.Told.{until}
 use Rattle.numerals.proofs.Splits.{part-rest}
-use Rattle.script.specs.Lines.{lineLength, endOf, lineAt}
+use Rattle.reader.specs.Lines.{lineLength, endOf, lineAt, nextAt}
 
 -- a line is as long as what stands before the first LF
 line-until : (bytes : List ℕ) → until 10 bytes ≡ lineLength bytes
@@ -33,9 +34,13 @@ lineLength-le (b ∷ bs) = by (eqb b 10) (lineLength-le bs)
 pub end-within : (script : List ℕ) (at : ℕ) → at ≤ length script → endOf script at ≤ length script
 end-within script at h = omega (arith, lineLength-le (drop at script), length-drop at script)
 
--- the part of the script up to the line's end is the line
-pub part-is-line : (script : List ℕ) (at end : ℕ) → end ≡ endOf script at → take (end - at) (drop at script) ≡ lineAt script at
-part-is-line script at end h = ap (λ k. take k (drop at script)) {x = end - at} {y = lineLength (drop at script)} (omega arith)
-
+-- past the script the line is empty
 pub line-beyond : (script : List ℕ) (at : ℕ) → length script ≤ at → [] ≡ lineAt script at
-line-beyond script at h = sym (ap (λ t. take (lineLength t) t) (drop-of-length-le script {i = at} h))
+line-beyond script at h = rw (drop-of-length-le script {i = at} h) refl
+
+-- the place after a line that has its LF, and after one that has not
+pub next-ended : (script : List ℕ) (at end : ℕ) → end ≡ endOf script at → end < length script → end + 1 ≡ nextAt script at
+next-ended script at end e h = rw (lt-ltb (endOf script at) (length script) (omega arith), e) refl
+
+pub next-unended : (script : List ℕ) (at end : ℕ) → end ≡ endOf script at → length script ≤ end → end ≡ nextAt script at
+next-unended script at end e h = rw (le-ltb (endOf script at) (length script) (omega arith), e) refl

@@ -1,8 +1,8 @@
--- `script::end_of` is where the line ends: as many bytes on as stand before the first LF, or at the place itself past the script. Assumes nothing.
+-- `reader::end_of` is where the line ends: as many bytes on as stand before the first LF, or at the place itself past the script. Assumes nothing.
 use borrow.Author.Needs.{needs}
-use Rattle.script.proofs.Lines.{end-found, end-beyond}
-use Rattle.script.proofs.end_of.Statement.{statement}
-use Rattle.script.proofs.end_of.Tie as tie
+use Rattle.reader.proofs.Lines.{end-found, end-beyond}
+use Rattle.reader.proofs.end_of.Statement.{statement}
+use Rattle.reader.proofs.end_of.Tie as tie
 
 returns : tie.Need-returns
 returns c = end-beyond _ _ (c .if1 .taken)

@@ -1,9 +1,13 @@
--- `script::line_at` is the line at a place: the part up to its end, which lies within the script, or nothing past it. Assumes nothing.
+-- `reader::line_at` is the line at a place: the part up to its end, which lies within the script, or nothing past it. Assumes nothing.
+use mathlib.Core.Path.{ap}
+use Prim.Native.Nat.{_-_}
 use native.Mathlib.Omega.{arith}
+use lib.ListN.{take, drop}
 use borrow.Author.Needs.{needs}
-use Rattle.script.proofs.Lines.{end-within, part-is-line, line-beyond}
-use Rattle.script.proofs.line_at.Statement.{statement}
-use Rattle.script.proofs.line_at.Tie as tie
+use Rattle.reader.specs.Lines.{lineLength}
+use Rattle.reader.proofs.Lines.{end-within, line-beyond}
+use Rattle.reader.proofs.line_at.Statement.{statement}
+use Rattle.reader.proofs.line_at.Tie as tie
 
 end-of-requires : tie.Need-end-of-requires
 end-of-requires c κs = search needs
@@ -20,7 +24,11 @@ part-result-end c =
     omega (arith, end-within (given .script .now) (given .at) (omega arith), c .before .end-of .ensures)
 
 returns : tie.Need-returns
-returns c = part-is-line _ _ _ (c .before .before .end-of .ensures)
+returns c =
+    let end = c .before .before in
+    let given = end .before .before .args in
+    let rest = drop (given .at) (given .script .now) in
+    ap (λ k. take k rest) {x = end .end-of .result - given .at} {y = lineLength rest} (omega (arith, end .end-of .ensures))
 
 sub-result-2 : tie.Need-sub-result-2
 sub-result-2 c = search needs
