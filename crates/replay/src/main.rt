@@ -48,10 +48,10 @@ fn is_all(listing: &[u8], at: usize, part: &[u8], n: usize) -> bool {
 
 // Whether the script's listing is this one.
 fn agrees(script: &[u8], listing: &[u8], part: &mut [u8]) -> bool {
-    let opened = run::open(script);
+    let opened = session::open(script);
     let refusal = opened.refusal;
     if records::refusal_number(refusal) != 0 {
-        let n = run::list_refusal(refusal, opened.place, part);
+        let n = session::list_refusal(refusal, opened.place, part);
         return is_all(listing, 0, part, n);
     }
     let mut running = opened.start;
@@ -68,7 +68,7 @@ fn agrees(script: &[u8], listing: &[u8], part: &mut [u8]) -> bool {
         budget = run::budget_left(budget, ran.taken);
     }
     let state = running.state;
-    let n = run::list_end(state, part);
+    let n = session::list_end(state, part);
     is_all(listing, at, part, n)
 }
 

@@ -1,5 +1,5 @@
 // rigscript (document 01, "Script and its listing"): a script on standard input, at most 4,096 of its events run, the listing on standard output, written
-// as it goes. All that it writes is made by crate `run`; here are the rooms and the loop.
+// as it goes. All that it writes is made by crates `run` and `session`; here are the rooms and the loop.
 ghost use mathlib.Core.Path.{_≡_};
 ghost use lib.ListN.{length};
 use libc::STDIN_FILENO;
@@ -33,10 +33,10 @@ fn main() {
     let script = &whole[..n];
     let mut room = listing_room();
     let listing: &mut [u8] = &mut room;
-    let opened = run::open(script);
+    let opened = session::open(script);
     let refusal = opened.refusal;
     if records::refusal_number(refusal) != 0 {
-        let refused = run::list_refusal(refusal, opened.place, listing);
+        let refused = session::list_refusal(refusal, opened.place, listing);
         write_listing(listing, refused);
         return;
     }
@@ -49,6 +49,6 @@ fn main() {
         budget = run::budget_left(budget, ran.taken);
     }
     let state = running.state;
-    let last = run::list_end(state, listing);
+    let last = session::list_end(state, listing);
     write_listing(listing, last);
 }

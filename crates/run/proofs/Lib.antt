@@ -1,7 +1,6 @@
 pub mod Follows
 pub mod Lengths
 pub mod Lists
-pub mod Opens
 pub mod Runs
 pub mod Steps
 pub mod Turns

@@ -6,19 +6,17 @@ use Prim.Native.Nat.{ℕ, zero, suc, _+_, _-_, _*_, _/_, _≤_}
 use native.Mathlib.Omega.{arith}
 use borrow.Author.Tests.{le-leb, lt-leb}
 use lib.ListN.{length, take}
-use lib.Seq.{length-take-le, take-all}
+use lib.Seq.{length-take-le}
 use Rattle.numerals.proofs.Splits.{by-order}
 use Rattle.rules.specs.Model.{Call}
 use Rattle.state.specs.declared.FederateCoordinationState.{FederateCoordinationState as Held}
-use Rattle.opening.specs.Opened.{openedHeld}
 use Rattle.calls.specs.Called.{stateOf}
 use Rattle.events.specs.Events.{eventOf}
 use Rattle.script.specs.Lines.{Reading, Bad, Good, andThen, item, items}
 use Rattle.script.proofs.Good.{good-script-reads-again}
 use Rattle.run.specs.Run.{given, eventLines, runState, runLines, callsBy, callsFrom, placeBy, placeFrom, lesser, allowance}
 use Rattle.run.proofs.Turns.{step-count}
-use Rattle.run.specs.Open.{startOf, listingOf}
-use Rattle.run.specs.Demands.{TakesTheLesser, TakesTheFirst, MoreExtendsLess, ListsTheScript}
+use Rattle.run.specs.Demands.{TakesTheLesser, TakesTheFirst, MoreExtendsLess}
 
 -- ---- what was read after something else: each part was
 
@@ -85,7 +83,7 @@ more-extends-less bytes at m n number s e =
 pub takes-the-first : TakesTheFirst
 takes-the-first bytes s last n e h = calls-first n (length (s .events)) bytes (s .eventsAt) (s .events) last (good-script-reads-again bytes s last e .reads) h
 
-lesser-right : (a b : ℕ) → lesser a b ≤ b
+pub lesser-right : (a b : ℕ) → lesser a b ≤ b
 lesser-right a b = by-order a b (λ j. rw (le-leb a b j) j) (λ j. rw (lt-leb a b j) (omega arith))
 
 enough : (budget left room : ℕ) → 5600 * lesser budget left ≤ room → allowance budget left room ≡ lesser budget left
@@ -103,21 +101,3 @@ takes-the-lesser bytes s last budget room held e h =
     let n = enough budget left room h in
     let few = lesser-right budget left in
     step-count (callsFrom (allowance budget left room) bytes (s .eventsAt)) held ∙ ap (λ k. length (callsFrom k bytes (s .eventsAt))) n ∙ ap length (takes-the-first bytes s last (lesser budget left) e few) ∙ length-take-le (lesser budget left) (s .events) few
-
--- ---- the whole listing
-
--- the first of a list, where more are asked for than it has
-first-of : (budget : ℕ) (cs : List Call) → take (lesser budget (length cs)) cs ≡ take budget cs
-first-of budget cs =
-    by-order budget (length cs)
-    (λ h. rw (le-leb budget (length cs) h) refl)
-    (λ h. rw (lt-leb budget (length cs) h) (take-all (length cs) cs (omega arith) ∙ sym (take-all budget cs (omega arith))))
-
-pub lists-the-script : ListsTheScript
-unfolding listingOf startOf
-lists-the-script bytes s last budget short e opens =
-    let n = lesser budget (length (s .events)) in
-    let held = openedHeld (s .participants) (s .policy) (s .revision) (s .generation) in
-    let calls : callsFrom n bytes (s .eventsAt) ≡ take budget (s .events) = takes-the-first bytes s last n e (lesser-right budget (length (s .events))) ∙ first-of budget (s .events) in
-    let one : length (s .events) - length (s .events) + 1 ≡ 1 = omega arith in
-    rw (short, e, opens, calls, one) refl

@@ -1,20 +1,16 @@
 -- What holds of runs beyond the promises (document 01, "A run takes a number of events it may use .."), stated; proofs/ prove each. Assumes nothing.
 use Prim.Native.Nat.{ℕ, _+_, _*_, _≤_}
 use mathlib.Core.Path.{_≡_}
-use mathlib.Core.Bool.{false}
 use mathlib.Core.List.{List, _++_, map}
 use lib.Dec.{T}
 use lib.ListN.{length, take}
 use Rattle.rules.specs.Model.{Call}
-use Rattle.rules.specs.Opening.{openingRefusal}
 use Rattle.rules.specs.Calls.{isSound, runCalls}
 use Rattle.state.specs.declared.FederateCoordinationState.{FederateCoordinationState as Held}
 use Rattle.state.specs.View.{view, represents}
 use Rattle.state.specs.Parts.{Sized}
 use Rattle.script.specs.Lines.{Good}
 use Rattle.script.specs.Script.{Script, scriptOf}
-use Rattle.run.specs.Promises.{nextNumber}
-use Rattle.run.specs.Open.{isTooLong, startOf, lastLine, listingOf}
 use Rattle.run.specs.Run.{given, runState, runLines, stepCount, callsFrom, placeFrom, lesser, allowance}
 
 -- in a script of good form a run from the first event takes the lesser of its budget and of the events, where the room suffices for them
@@ -39,11 +35,3 @@ MoreExtendsLess =
 abbrev pub RunFollowsRules : Type 0
 RunFollowsRules =
     (cs : List Call) (s : Held) → Sized s → T (represents s) → T (isSound (view s)) → view (runState cs s) ≡ runCalls (map given cs) (view s) .state
-
--- what the program writes is the script's listing: the lines of the events that a run from the start takes, then the last line
-abbrev pub ListsTheScript : Type 0
-ListsTheScript =
-    (bytes : List ℕ) (s : Script) (last budget : ℕ) → isTooLong bytes ≡ false → scriptOf bytes ≡ Good s last → openingRefusal (s .participants) ≡ 0
-    → listingOf budget bytes
-    ≡ runLines (nextNumber (startOf bytes)) (callsFrom (lesser budget (startOf bytes .left)) bytes (startOf bytes .at)) (startOf bytes .state)
-    ++ lastLine (runState (callsFrom (lesser budget (startOf bytes .left)) bytes (startOf bytes .at)) (startOf bytes .state))

@@ -1,4 +1,3 @@
 pub mod Run
 pub mod Promises
-pub mod Open
 pub mod Demands

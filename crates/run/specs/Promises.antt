@@ -1,10 +1,9 @@
 -- What a run from a place promises. Assumes nothing.
 use mathlib.Core.Path.{_≡_}
-use mathlib.Core.Bool.{true, false, cond}
+use mathlib.Core.Bool.{true, false}
 use mathlib.Core.List.{List}
 use mathlib.Core.Option.{Option, none, some}
 use Prim.Native.Nat.{ℕ, _+_, _-_}
-use lib.Dec.{ltb}
 use lib.ListN.{length}
 use Rattle.bytes.specs.Runs.{putAt}
 use Rattle.rules.specs.Model.{Call}
@@ -30,11 +29,6 @@ pub record Runs (script : List ℕ) (p : Running) (budget : ℕ) (before after :
   pub left : r .rest .left ≡ p .left - r .taken
   pub written : r .written ≡ length (runLines (nextNumber p) (callsFrom (allowance budget (p .left) (length before)) script (p .at)) (p .state))
   pub bytes : after ≡ putAt before 0 (runLines (nextNumber p) (callsFrom (allowance budget (p .left) (length before)) script (p .at)) (p .state))
-
--- one line put from byte 0 on where the room has so many bytes, and else nothing: n bytes were written
-pub record Lists (most : ℕ) (line before after : List ℕ) (n : ℕ) : Type 0 where
-  pub written : n ≡ cond (ltb (length before) most) 0 (length line)
-  pub bytes : after ≡ cond (ltb (length before) most) before (putAt before 0 line)
 
 -- an event that tells a call, taken and listed from `written` on
 abbrev pub ListsBy : Option Call → Held → ℕ → ℕ → List ℕ → List ℕ → Listed → Type 0

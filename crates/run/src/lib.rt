@@ -9,12 +9,8 @@ ghost use Rattle.events.specs.Events.{eventOf};
 ghost use Rattle.events.specs.Told.{toldEvent};
 ghost use Rattle.script.specs.Lines.{item};
 ghost use Rattle.run.specs.Run.{lesser, allowance};
-ghost use Rattle.records.specs.Numbers.{refusalNumber};
-ghost use Rattle.run.specs.Promises.{Runs, Lists, ListsBy, StepsBy};
-ghost use Rattle.run.specs.Open.{nowhere, OpensScript, refusalLine, lastLine};
+ghost use Rattle.run.specs.Promises.{Runs, ListsBy, StepsBy};
 use events::Event;
-use records::LifecyclePolicy;
-use records::Refusal;
 use state::FederateCoordinationState;
 
 // A script's run: the state, the place of the next event's line, how many events the script has, and how many are left.
@@ -23,13 +19,6 @@ pub struct Running {
     pub at: usize,
     pub events: usize,
     pub left: usize,
-}
-
-// A script opened: `Taken` and where its run begins; or why it was refused and, for 11, at which place.
-pub struct Opened {
-    pub refusal: Refusal,
-    pub place: usize,
-    pub start: Running,
 }
 
 // What a run came to: the run from there on, the number of events taken and of bytes written.
@@ -167,95 +156,6 @@ fn came_to(
         taken,
         written,
     }
-}
-
-fn unopened(refusal: Refusal, place: usize) -> Opened
-    ensures { λ r. ⌜ r ≡ record { refusal = refusal; place = place; start = nowhere } ⌝ }
-{
-    let none: [u32; 0] = [];
-    let opened = opening::new(&none, LifecyclePolicy::KeepAlive, 0, 0);
-    let state = opened.state;
-    let start = Running {
-        state,
-        at: 0,
-        events: 0,
-        left: 0,
-    };
-    Opened {
-        refusal,
-        place,
-        start,
-    }
-}
-
-// The script that the bytes are, opened: refused 12, 11 with its place, then as the opening.
-pub fn open(bytes: &[u8]) -> Opened
-    ensures { λ r. ⌜ OpensScript (now (bytes .entry)) r ⌝ }
-{
-    let read = script::read_script(bytes);
-    let refusal = read.refusal;
-    if records::refusal_number(refusal) != 0 {
-        return unopened(refusal, read.place);
-    }
-    let participants = read.participants;
-    let policy = read.policy;
-    let count = read.count;
-    let listed: &[u32] = &participants;
-    let opened = opening::new(&listed[..count], policy, read.revision, read.generation);
-    let state = opened.state;
-    let outcome = opened.refusal;
-    let start = Running {
-        state,
-        at: read.events_at,
-        events: read.events,
-        left: read.events,
-    };
-    Opened {
-        refusal: outcome,
-        place: 0,
-        start,
-    }
-}
-
-// Lists why a script was refused, from byte 0 of the room, and answers how many bytes that took; none if the room has less than 160.
-pub fn list_refusal(refusal: Refusal, place: usize, out: &mut [u8]) -> usize
-    ensures { λ r. ⌜ Lists 160 (refusalLine (refusalNumber refusal) place) (now (out .entry)) (now (out .exit)) r ⌝ }
-{
-    if out.len() < 160 {
-        return 0;
-    }
-    if records::refusal_number(refusal) == 11 {
-        return listing::put_misplaced(out, 0, place);
-    }
-    listing::put_refused(out, 0, refusal)
-}
-
-// Lists the end of a run, from byte 0 of the room, and answers how many bytes that took; none if the room has less than 240.
-pub fn list_end(state: FederateCoordinationState, out: &mut [u8]) -> usize
-    ensures { λ r. ⌜ Lists 240 (lastLine state) (now (out .entry)) (now (out .exit)) r ⌝ }
-{
-    if out.len() < 240 {
-        return 0;
-    }
-    let revision = queries::revision(state);
-    let phase = queries::phase(state);
-    let generation = queries::generation(state);
-    let frontier = queries::completed_frontier(state);
-    let horizon = queries::grant_horizon(state);
-    let settled = queries::is_settled(state);
-    let reached = phase.answer;
-    let completed = frontier.answer;
-    let granted = horizon.answer;
-    listing::put_end(
-        out,
-        0,
-        revision.answer,
-        reached,
-        generation.answer,
-        completed,
-        granted,
-        settled.answer,
-    )
 }
 
 // What is left of a budget after so many events: nothing where none was taken, for then none is left to take.

@@ -1,8 +1,8 @@
--- `run::open` refuses as the reading does, and else opens the participants kept, which is the opening of all of them. Assumes nothing.
+-- `session::open` refuses as the reading does, and else opens the participants kept, which is the opening of all of them. Assumes nothing.
 use borrow.Author.Needs.{needs}
-use Rattle.run.proofs.Opens.{length-lent, opens-refused, opens-made}
-use Rattle.run.proofs.open.Statement.{statement}
-use Rattle.run.proofs.open.Tie as tie
+use Rattle.session.proofs.Opens.{length-lent, opens-refused, opens-made}
+use Rattle.session.proofs.open.Statement.{statement}
+use Rattle.session.proofs.open.Tie as tie
 
 read-script-requires : tie.Need-read-script-requires
 read-script-requires c κs = search needs

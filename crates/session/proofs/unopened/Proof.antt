@@ -1,10 +1,10 @@
--- `run::unopened` carries the refusal with the blank state, which is what the opening of no participants leaves. Assumes nothing.
+-- `session::unopened` carries the refusal with the blank state, which is what the opening of no participants leaves. Assumes nothing.
 use mathlib.Core.Path.{ap}
 use borrow.Author.Needs.{needs}
 use Rattle.rules.specs.Opening.{openingRefusal}
 use Rattle.opening.specs.Opened.{openedHeld}
-use Rattle.run.proofs.unopened.Statement.{statement}
-use Rattle.run.proofs.unopened.Tie as tie
+use Rattle.session.proofs.unopened.Statement.{statement}
+use Rattle.session.proofs.unopened.Tie as tie
 
 slice-aggregate-new : tie.Need-slice-aggregate-new
 slice-aggregate-new c = search needs

@@ -1,9 +1,9 @@
--- `run::list_refusal` lists nothing in less than 160 bytes, else the line of 11 with its place or that of another refusal. Assumes nothing.
+-- `session::list_refusal` lists nothing in less than 160 bytes, else the line of 11 with its place or that of another refusal. Assumes nothing.
 use borrow.Author.Needs.{needs}
 use Rattle.records.specs.Numbers.{refusalNumber}
-use Rattle.run.proofs.Opens.{lists-nothing, lists-line, misplaced-told, refused-told}
-use Rattle.run.proofs.list_refusal.Statement.{statement}
-use Rattle.run.proofs.list_refusal.Tie as tie
+use Rattle.session.proofs.Opens.{lists-nothing, lists-line, misplaced-told, refused-told}
+use Rattle.session.proofs.list_refusal.Statement.{statement}
+use Rattle.session.proofs.list_refusal.Tie as tie
 
 returns : tie.Need-returns
 returns c = lists-nothing 160 _ (c .before .before .args .out .now) (c .if1 .taken)

@@ -1,8 +1,8 @@
--- `run::list_end` lists nothing in less than 240 bytes, else the last line, of what the queries answer. Assumes nothing.
+-- `session::list_end` lists nothing in less than 240 bytes, else the last line, of what the queries answer. Assumes nothing.
 use borrow.Author.Needs.{needs}
-use Rattle.run.proofs.Opens.{lists-nothing, lists-line, end-told}
-use Rattle.run.proofs.list_end.Statement.{statement}
-use Rattle.run.proofs.list_end.Tie as tie
+use Rattle.session.proofs.Opens.{lists-nothing, lists-line, end-told}
+use Rattle.session.proofs.list_end.Statement.{statement}
+use Rattle.session.proofs.list_end.Tie as tie
 
 returns : tie.Need-returns
 returns c = lists-nothing 240 _ (c .before .before .args .out .now) (c .if1 .taken)

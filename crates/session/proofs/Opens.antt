@@ -28,9 +28,9 @@ use Rattle.script.specs.declared.ReadScript.{ReadScript}
 use Rattle.script.specs.Lines.{Reading, Bad, Good}
 use Rattle.script.specs.Script.{Script, scriptOf}
 use Rattle.script.specs.Read.{refusedAt, answered, readScriptOf}
-use Rattle.run.specs.declared.Opened.{Opened}
-use Rattle.run.specs.Open.{isTooLong, formRefusal, formPlace, nowhere, startBy, scriptRefusal, scriptPlace, startOf, OpensScript, refusalLine, lastLine}
-use Rattle.run.specs.Promises.{Lists}
+use Rattle.session.specs.declared.Opened.{Opened}
+use Rattle.session.specs.Open.{isTooLong, formRefusal, formPlace, nowhere, startBy, scriptRefusal, scriptPlace, startOf, OpensScript}
+use Rattle.session.specs.Listing.{refusalLine, lastLine, Lists}
 
 -- ---- the participants kept, and the opening of them
 

@@ -1,62 +1,22 @@
--- Document 01, "Script and its listing": a script opened, "Scripts: 12, 11, then the opening", and the whole listing of a script. Assumes nothing.
+-- Document 01, "Script and its listing": the last line of a listing, the line of a refusal, and the whole listing of a script. Assumes nothing.
 use Prim.Native.Nat.{ℕ}
 use mathlib.Core.Path.{_≡_}
-use mathlib.Core.Bool.{Bool, false, cond}
+use mathlib.Core.Bool.{false, cond}
 use mathlib.Core.List.{List, _++_}
 use lib.Dec.{eqb, ltb}
 use lib.ListN.{length, take}
-use Rattle.records.specs.Numbers.{refusalNumber}
+use Rattle.bytes.specs.Runs.{putAt}
 use Rattle.rules.specs.Model.{NoTag, Active}
 use Rattle.rules.specs.Opening.{openingRefusal}
 use Rattle.rules.specs.Queries.{isSettled}
 use Rattle.state.specs.declared.FederateCoordinationState.{FederateCoordinationState as Held}
-use Rattle.opening.specs.Opened.{blank, openedHeld}
+use Rattle.opening.specs.Opened.{openedHeld}
 use Rattle.queries.specs.Asked.{askHeld}
 use Rattle.script.specs.Lines.{Reading, Bad, Good}
 use Rattle.script.specs.Script.{Script, scriptOf}
 use Rattle.listing.specs.Listing.{endLine, misplacedLine, refusedLine}
 use Rattle.run.specs.Run.{runState, runLines}
-use Rattle.run.specs.declared.Running.{Running}
-use Rattle.run.specs.declared.Opened.{Opened}
-
--- "script over 65,536 bytes"
-abbrev pub isTooLong : List ℕ → Bool
-isTooLong bytes = ltb 65536 (length bytes)
-
--- 11 for a bad line, else the opening's refusal
-abbrev pub formRefusal : Reading Script → ℕ
-formRefusal (Bad place) = 11
-formRefusal (Good s last) = openingRefusal (s .participants)
-
-unfoldable pub scriptRefusal : List ℕ → ℕ
-scriptRefusal bytes = cond (isTooLong bytes) 12 (formRefusal (scriptOf bytes))
-
--- "11; with a byte place": 0 beside any other refusal
-abbrev pub formPlace : Reading Script → ℕ
-formPlace (Bad place) = place
-formPlace (Good s last) = 0
-
-unfoldable pub scriptPlace : List ℕ → ℕ
-scriptPlace bytes = cond (isTooLong bytes) 0 (formPlace (scriptOf bytes))
-
--- where a run begins: at the first event, with the state of the opening
-abbrev pub nowhere : Running
-nowhere = record { state = blank 0; at = 0; events = 0; left = 0 }
-
-abbrev pub startBy : Reading Script → Running
-startBy (Bad place) = nowhere
-startBy (Good s last) =
-    record { state = openedHeld (s .participants) (s .policy) (s .revision) (s .generation); at = s .eventsAt; events = length (s .events); left = length (s .events) }
-
-unfoldable pub startOf : List ℕ → Running
-startOf bytes = cond (isTooLong bytes) nowhere (startBy (scriptOf bytes))
-
-pub record OpensScript (bytes : List ℕ) (r : Opened) : Type 0 where
-  pub refusal : refusalNumber (r .refusal) ≡ scriptRefusal bytes
-  pub place : r .place ≡ scriptPlace bytes
-  pub start : r .start ≡ startOf bytes
-
--- ---- the listing
+use Rattle.session.specs.Open.{isTooLong}
 
 -- "Last: `end`, revision, phase in lower case, generation, completed frontier, horizon, settled."
 unfoldable pub lastLine : Held → List ℕ
@@ -80,3 +40,8 @@ listedBy budget (Good s last) = cond (eqb (openingRefusal (s .participants)) 0) 
 -- all that the program writes for these bytes
 unfoldable pub listingOf : ℕ → List ℕ → List ℕ
 listingOf budget bytes = cond (isTooLong bytes) (refusedLine 12) (listedBy budget (scriptOf bytes))
+
+-- one line put from byte 0 on where the room has so many bytes, and else nothing: n bytes were written
+pub record Lists (most : ℕ) (line before after : List ℕ) (n : ℕ) : Type 0 where
+  pub written : n ≡ cond (ltb (length before) most) 0 (length line)
+  pub bytes : after ≡ cond (ltb (length before) most) before (putAt before 0 line)

@@ -1,0 +1,106 @@
+// A script's listing before and after its run (document 01, "Script and its listing"): the script opened, the line of its refusal, and the last line. New here:
+// the Rust has no scripts. Refused as scripts are, 12, 11 with its place, then as the opening; a room too small for the line is left as it is.
+ghost use mathlib.Core.Path.{_≡_};
+ghost use Rattle.records.specs.Numbers.{refusalNumber};
+ghost use Rattle.session.specs.Open.{nowhere, OpensScript};
+ghost use Rattle.session.specs.Listing.{refusalLine, lastLine, Lists};
+use records::LifecyclePolicy;
+use records::Refusal;
+use run::Running;
+use state::FederateCoordinationState;
+
+// A script opened: `Taken` and where its run begins; or why it was refused and, for 11, at which place.
+pub struct Opened {
+    pub refusal: Refusal,
+    pub place: usize,
+    pub start: Running,
+}
+
+fn unopened(refusal: Refusal, place: usize) -> Opened
+    ensures { λ r. ⌜ r ≡ record { refusal = refusal; place = place; start = nowhere } ⌝ }
+{
+    let none: [u32; 0] = [];
+    let opened = opening::new(&none, LifecyclePolicy::KeepAlive, 0, 0);
+    let state = opened.state;
+    let start = Running {
+        state,
+        at: 0,
+        events: 0,
+        left: 0,
+    };
+    Opened {
+        refusal,
+        place,
+        start,
+    }
+}
+
+// The script that the bytes are, opened: refused 12, 11 with its place, then as the opening.
+pub fn open(bytes: &[u8]) -> Opened
+    ensures { λ r. ⌜ OpensScript (now (bytes .entry)) r ⌝ }
+{
+    let read = script::read_script(bytes);
+    let refusal = read.refusal;
+    if records::refusal_number(refusal) != 0 {
+        return unopened(refusal, read.place);
+    }
+    let participants = read.participants;
+    let policy = read.policy;
+    let count = read.count;
+    let listed: &[u32] = &participants;
+    let opened = opening::new(&listed[..count], policy, read.revision, read.generation);
+    let state = opened.state;
+    let outcome = opened.refusal;
+    let start = Running {
+        state,
+        at: read.events_at,
+        events: read.events,
+        left: read.events,
+    };
+    Opened {
+        refusal: outcome,
+        place: 0,
+        start,
+    }
+}
+
+// Lists why a script was refused, from byte 0 of the room, and answers how many bytes that took; none if the room has less than 160.
+pub fn list_refusal(refusal: Refusal, place: usize, out: &mut [u8]) -> usize
+    ensures { λ r. ⌜ Lists 160 (refusalLine (refusalNumber refusal) place) (now (out .entry)) (now (out .exit)) r ⌝ }
+{
+    if out.len() < 160 {
+        return 0;
+    }
+    if records::refusal_number(refusal) == 11 {
+        return listing::put_misplaced(out, 0, place);
+    }
+    listing::put_refused(out, 0, refusal)
+}
+
+// Lists the end of a run, from byte 0 of the room, and answers how many bytes that took; none if the room has less than 240.
+pub fn list_end(state: FederateCoordinationState, out: &mut [u8]) -> usize
+    ensures { λ r. ⌜ Lists 240 (lastLine state) (now (out .entry)) (now (out .exit)) r ⌝ }
+{
+    if out.len() < 240 {
+        return 0;
+    }
+    let revision = queries::revision(state);
+    let phase = queries::phase(state);
+    let generation = queries::generation(state);
+    let frontier = queries::completed_frontier(state);
+    let horizon = queries::grant_horizon(state);
+    let settled = queries::is_settled(state);
+    let reached = phase.answer;
+    let completed = frontier.answer;
+    let granted = horizon.answer;
+    listing::put_end(
+        out,
+        0,
+        revision.answer,
+        reached,
+        generation.answer,
+        completed,
+        granted,
+        settled.answer,
+    )
+}
