@@ -123,8 +123,8 @@ fn step(
     if !script::is_event(line) {
         return stays(state, at, written);
     }
-    let event = events::read_event(line);
-    let enclaves = events::enclaves(line);
+    let event = eventlines::read_event(line);
+    let enclaves = eventlines::enclaves(line);
     let listed = list_event(state, event, &enclaves, number, out, written);
     let next = listed.state;
     Stepped {

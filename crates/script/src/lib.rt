@@ -153,7 +153,7 @@ fn policy_at(script: &[u8], at: usize) -> Chosen
 pub fn is_event(line: &[u8]) -> bool
     ensures { λ r. ⌜ r ≡ isGiven (eventOf (now (line .entry))) ⌝ }
 {
-    let event = events::read_event(line);
+    let event = eventlines::read_event(line);
     match event {
         Event::NoEvent => false,
         Event::Active(_) => true,

@@ -21,7 +21,7 @@ use Rattle.opening.proofs.Laid.{opening-5}
 use Rattle.queries.specs.Asked.{askHeld}
 use Rattle.numerals.proofs.Splits.{by-order}
 use Rattle.events.specs.Told.{padded}
-use Rattle.events.proofs.Listed.{length-padded, take-padded}
+use Rattle.eventlines.proofs.Listed.{length-padded, take-padded}
 use Rattle.printing.specs.Runs.{Puts}
 use Rattle.listing.specs.Listing.{endLine, misplacedLine, refusedLine}
 use Rattle.script.specs.declared.ReadScript.{ReadScript}
