@@ -1,0 +1,39 @@
+-- `plain::enclave_asked` is `enclaveAsked`, by its cases. Assumes nothing.
+use mathlib.Core.Path.{sym, ap, _∙_}
+use borrow.Author.Needs.{needs}
+use Rattle.plain.specs.Asked.{enclaveAsked}
+use Rattle.plain.proofs.enclave_asked.Statement.{statement}
+use Rattle.plain.proofs.enclave_asked.Tie as tie
+
+enum-told : tie.Need-enum-told
+enum-told c = search needs
+
+asked-requires : tie.Need-asked-requires
+asked-requires c κs = search needs
+
+enum-known-answer : tie.Need-enum-known-answer
+enum-known-answer c = search needs
+
+cast-asked : tie.Need-cast-asked
+cast-asked c = search needs
+
+asked-requires-2 : tie.Need-asked-requires-2
+asked-requires-2 c κs = search needs
+
+returns : tie.Need-returns
+returns c = c .asked .ensures ∙ ap (enclaveAsked _) (sym (c .before .enum-told .given .1))
+
+returns-2 : tie.Need-returns-2
+returns-2 c = c .asked2 .ensures ∙ ap (enclaveAsked _) (sym (c .before .before .answer .given .1))
+
+pub enclave-asked-spec : {M : Type 1} → statement M
+enclave-asked-spec =
+    tie.close
+    (tie.spec
+    enum-told
+    asked-requires
+    enum-known-answer
+    cast-asked
+    asked-requires-2
+    returns
+    returns-2)

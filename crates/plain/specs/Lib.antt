@@ -1,0 +1,5 @@
+pub mod Tags
+pub mod Given
+pub mod Replied
+pub mod Asked
+pub mod Read
