@@ -8,7 +8,7 @@ use crate::Tag;
 
 /// As the listing, with a `state` line and a `participant` line for each enclave after the opening
 /// and after each event.
-pub(crate) fn listing_with_states(bytes: &[u8]) -> String {
+pub fn listing_with_states(bytes: &[u8]) -> String {
     let script = match read_script(bytes) {
         Ok(script) => script,
         Err(fault) => return fault_line(fault),

@@ -40,3 +40,7 @@ mod shrink;
 mod slip;
 
 pub use commands::{compare_main, generate_main, oracle_main};
+// For what is compared in one process: host/.
+pub use dump::listing_with_states;
+pub use generate::generate;
+pub use run::silence_expected_panics;

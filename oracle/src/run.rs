@@ -208,7 +208,7 @@ fn panic_text(panic: &(dyn std::any::Any + Send)) -> Option<&str> {
 }
 
 /// Keeps the expected panics off the error output; others are shown as ever. Called once by a program.
-pub(crate) fn silence_expected_panics(expected: &'static [&'static str]) {
+pub fn silence_expected_panics(expected: &'static [&'static str]) {
     let shown = take_hook();
     set_hook(Box::new(move |info| {
         let text = panic_text(info.payload());

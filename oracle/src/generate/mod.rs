@@ -43,7 +43,7 @@ const OBSERVATIONS: [Observation; 3] =
     [Observation::Probed, Observation::Parked, Observation::Rechecked];
 
 /// The script of a kind and a seed; nothing where the kind has no such name.
-pub(crate) fn generate(kind: &str, seed: u64) -> Option<Vec<u8>> {
+pub fn generate(kind: &str, seed: u64) -> Option<Vec<u8>> {
     let at = KINDS.iter().position(|(name, ..)| *name == kind)?;
     let kind_number = at as u64 + 1;
     let mut rng = Rng::new(seed ^ kind_number << 56);
