@@ -8,7 +8,7 @@ use lib.Dec.{eqb}
 use lib.ListN.{length}
 use Rattle.bytes.specs.Runs.{sameBytes}
 use Rattle.numerals.specs.Numerals.{text, split, space, numberOf, tagOf, optionalTagOf, orDash, given}
-use Rattle.rules.specs.Model.{Tag, OptionalTag, OptionalEnclave, NoEnclave, Enclave, Observation, Probed, HasParked, Rechecked, Call, active, stopped, publish, complete, observed, failed, acquire, sent, observe, idle, stop, progress, horizon, begin, late, done, input}
+use Rattle.rules.specs.Model.{OptionalEnclave, NoEnclave, Enclave, Observation, Probed, HasParked, Rechecked, Call, active, stopped, publish, complete, observed, failed, acquire, sent, observe, idle, stop, progress, horizon, begin, late, done, input}
 
 -- ---- the fields of an event
 

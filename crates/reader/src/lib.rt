@@ -1,6 +1,6 @@
-// The reader of a script (document 01, "Script and its listing"): "The reader holds the script and its place, and hands out each line as that part of the script."
-// New here: the Rust has no scripts. It refuses nothing: past the script every line is empty. The functions over the reader are thin: each takes it apart
-// and leaves the work to a function on the script and a place; `line_from` and `place_after` serve whoever has these two in hand.
+// The reader of a script (document 01, "Script and its listing"): "The reader holds the script and its place, and hands out each line as that part of the
+// script." New here: the Rust has no scripts. It refuses nothing: past the script every line is empty. The functions over the reader are thin: each takes it
+// apart and leaves the work to a function on the script and a place; `line_from` and `place_after` serve whoever has these two in hand.
 ghost use mathlib.Core.Path.{_≡_};
 ghost use lib.Dec.{leb, ltb};
 ghost use lib.ListN.{length};

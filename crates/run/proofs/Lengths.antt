@@ -15,7 +15,8 @@ use Rattle.tags.specs.declared.OptionalTag.the-variants.{NoTag, At}
 use Rattle.numerals.specs.Numerals.{text}
 use Rattle.numerals.proofs.Splits.{by-order}
 use Rattle.printing.specs.Printing.{digitsOf, decimal, integer, tagText, optionalTagText}
-use Rattle.rules.specs.Model.{Answer, Silent, No, Yes, Call, CoordinationAction, Publish, AdvanceHorizon, Grant, Complete, CompletionProbe, Probe, Park, Recheck, Resume, Stop, Abort}
+use Rattle.rules.specs.Model.{Answer, Silent, No, Yes, Call, CoordinationAction, Publish, AdvanceHorizon, Grant, Complete, CompletionProbe, Probe, Park}
+use Rattle.rules.specs.Model.{Recheck, Resume, Stop, Abort}
 use Rattle.rules.specs.Calls.{call, takeStep, refusal}
 use Rattle.rules.proofs.Room.{call-fits-room}
 use Rattle.rules.proofs.Sound.{sound-number}
@@ -48,7 +49,9 @@ integer-short (negsuc n) = omega (arith, decimal-short (n + 1))
 
 tag-short : (t : Tag) → length (tagText t) ≤ 64
 unfolding tagText
-tag-short t = rw (length-append, length-append, length-append, length-append) (omega (arith, integer-short (t .seconds), integer-short (t .nanoseconds), decimal-short (t .microstep)))
+tag-short t =
+    rw (length-append, length-append, length-append, length-append)
+    (omega (arith, integer-short (t .seconds), integer-short (t .nanoseconds), decimal-short (t .microstep)))
 
 optional-short : (o : OptionalTag) → length (optionalTagText o) ≤ 64
 optional-short NoTag = omega arith
@@ -82,10 +85,23 @@ four-words a b c d = more-words a b (c ∷ d ∷ []) ∙ rw (three-words b c d) 
 
 action-short : (a : CoordinationAction) → length (actionLine a) ≤ 160
 unfolding actionLine
-action-short (Publish p) = omega (arith, four-words (text "publish") (decimal (p .revision)) (optionalTagText (p .«next_event»)) (optionalTagText (p .«grant_horizon»)), decimal-short (p .revision), optional-short (p .«next_event»), optional-short (p .«grant_horizon»))
+action-short (Publish p) =
+    omega (
+      arith,
+      four-words (text "publish") (decimal (p .revision)) (optionalTagText (p .«next_event»)) (optionalTagText (p .«grant_horizon»)),
+      decimal-short (p .revision),
+      optional-short (p .«next_event»),
+      optional-short (p .«grant_horizon»),
+    )
 action-short (AdvanceHorizon t) = omega (arith, two-words (text "advance") (tagText t), tag-short t)
 action-short (Grant e t) = omega (arith, three-words (text "grant") (decimal e) (tagText t), decimal-short e, tag-short t)
-action-short (Complete c) = omega (arith, three-words (text "complete") (tagText (c .completed)) (markText (c .«network_input»)), tag-short (c .completed), mark-short (c .«network_input»))
+action-short (Complete c) =
+    omega (
+      arith,
+      three-words (text "complete") (tagText (c .completed)) (markText (c .«network_input»)),
+      tag-short (c .completed),
+      mark-short (c .«network_input»),
+    )
 action-short (CompletionProbe e g) = omega (arith, three-words (text "completion-probe") (decimal e) (decimal g), decimal-short e, decimal-short g)
 action-short (Probe r) = omega (arith, two-words (text "probe") (decimal r), decimal-short r)
 action-short (Park r) = omega (arith, two-words (text "park") (decimal r), decimal-short r)
@@ -101,7 +117,8 @@ actions-short (a ∷ rest) = rw (length-append (actionLine a) (actionLines rest)
 
 event-line-short : (k r : ℕ) (a : Answer) (n : ℕ) → length (eventLine k r a n) ≤ 160
 unfolding eventLine
-event-line-short k r a n = omega (arith, four-words (decimal k) (decimal r) (answerText a) (decimal n), decimal-short k, decimal-short r, answer-short a, decimal-short n)
+event-line-short k r a n =
+    omega (arith, four-words (decimal k) (decimal r) (answerText a) (decimal n), decimal-short k, decimal-short r, answer-short a, decimal-short n)
 
 -- ---- a call's actions: those of a call that is refused are none, those of a taken one fit the room of at most 32 participants
 

@@ -37,7 +37,9 @@ calls-few (suc n) script at = go (λ next. calls-few n script next) (item eventO
 pub lines-short : (k : ℕ) (cs : List Call) (s : Held) → length (runLines k cs s) ≤ 5600 * length cs
 unfolding runLines
 lines-short k [] s = omega arith
-lines-short k (c ∷ cs) s = rw (length-append (eventLines k c s) (runLines (k + 1) cs (stateOf (given c) s))) (omega (arith, event-short k c s, lines-short (k + 1) cs (stateOf (given c) s)))
+lines-short k (c ∷ cs) s =
+    rw (length-append (eventLines k c s) (runLines (k + 1) cs (stateOf (given c) s)))
+    (omega (arith, event-short k c s, lines-short (k + 1) cs (stateOf (given c) s)))
 
 pub step-count : (cs : List Call) (s : Held) → stepCount cs s ≡ length cs
 unfolding stepCount
@@ -49,7 +51,7 @@ step-count (c ∷ cs) s = omega (arith, step-count cs (stateOf (given c) s))
 lesser-left : (a b : ℕ) → lesser a b ≤ a
 lesser-left a b = by-order a b (λ h. rw (le-leb a b h) (omega arith)) (λ h. rw (lt-leb a b h) (omega arith))
 
-lesser-right : (a b : ℕ) → lesser a b ≤ b
+pub lesser-right : (a b : ℕ) → lesser a b ≤ b
 lesser-right a b = by-order a b (λ h. rw (le-leb a b h) h) (λ h. rw (lt-leb a b h) (omega arith))
 
 module _ (budget left room n : ℕ) (e : n ≡ allowance budget left room) where
@@ -70,18 +72,30 @@ pub record Left (script : List ℕ) (n before : ℕ) (s₀ : Held) (at₀ : ℕ)
   pub calls : taken + length (callsFrom (n - taken) script at) ≡ length (callsFrom n script at₀)
   pub states : runState (callsFrom (n - taken) script at) s ≡ runState (callsFrom n script at₀) s₀
   pub places : placeFrom (n - taken) script at ≡ placeFrom n script at₀
-  pub lengths : written + length (runLines (before + taken + 1) (callsFrom (n - taken) script at) s) ≡ length (runLines (before + 1) (callsFrom n script at₀) s₀)
-  pub bytes : putAt out written (runLines (before + taken + 1) (callsFrom (n - taken) script at) s) ≡ putAt out₀ 0 (runLines (before + 1) (callsFrom n script at₀) s₀)
+  pub lengths : written + length (runLines (before + taken + 1) (callsFrom (n - taken) script at) s)
+      ≡ length (runLines (before + 1) (callsFrom n script at₀) s₀)
+  pub bytes : putAt out written (runLines (before + taken + 1) (callsFrom (n - taken) script at) s)
+      ≡ putAt out₀ 0 (runLines (before + 1) (callsFrom n script at₀) s₀)
 
 module _ (script : List ℕ) (n before : ℕ) (s₀ : Held) (at₀ : ℕ) (out₀ : List ℕ) where
   pub begins : 5600 * n ≤ length out₀ → Left script n before s₀ at₀ out₀ out₀ s₀ at₀ 0 0
   begins h =
       let z : n - 0 ≡ n = omega arith in
       let f : before + 0 + 1 ≡ before + 1 = omega arith in
-      record { few = omega arith; fits = omega arith; same = refl; calls = rw z (omega arith); states = rw z refl; places = rw z refl; lengths = rw (z, f) (omega arith); bytes = rw (z, f) refl }
+      record {
+        few = omega arith;
+        fits = omega arith;
+        same = refl;
+        calls = rw z (omega arith);
+        states = rw z refl;
+        places = rw z refl;
+        lengths = rw (z, f) (omega arith);
+        bytes = rw (z, f) refl;
+      }
 
 -- an event more
-module _ (script : List ℕ) (n before : ℕ) (s₀ : Held) (at₀ : ℕ) (out₀ out out′ : List ℕ) (s : Held) (at taken written : ℕ) (l : Left script n before s₀ at₀ out₀ out s at taken written) (more : taken < n)
+module _ (script : List ℕ) (n before : ℕ) (s₀ : Held) (at₀ : ℕ) (out₀ out out′ : List ℕ) (s : Held) (at taken written : ℕ)
+    (l : Left script n before s₀ at₀ out₀ out s at taken written) (more : taken < n)
     (c : Call) (next : ℕ) (found : item eventOf script at ≡ Good c next) (put : out′ ≡ putAt out written (eventLines (before + taken + 1) c s)) where
   turn : n - taken ≡ suc (n - (taken + 1))
   turn = omega arith
@@ -95,14 +109,21 @@ module _ (script : List ℕ) (n before : ℕ) (s₀ : Held) (at₀ : ℕ) (out�
 
   lines : runLines (before + taken + 1) (callsFrom (n - taken) script at) s ≡ eventLines (before + taken + 1) c s ++ rest
   unfolding runLines rest
-  lines = ap (λ cs. runLines (before + taken + 1) cs s) this ∙ ap (λ k. eventLines (before + taken + 1) c s ++ runLines k (callsFrom (n - (taken + 1)) script next) (stateOf (given c) s)) (omega arith)
+  lines =
+      ap (λ cs. runLines (before + taken + 1) cs s) this
+      ∙ ap (λ k. eventLines (before + taken + 1) c s ++ runLines k (callsFrom (n - (taken + 1)) script next) (stateOf (given c) s)) (omega arith)
 
   short : length (eventLines (before + taken + 1) c s) ≤ 5600
   short = event-short (before + taken + 1) c s
 
   rest-short : length rest ≤ 5600 * (n - (taken + 1))
   unfolding rest
-  rest-short = omega (arith, lines-short (before + (taken + 1) + 1) (callsFrom (n - (taken + 1)) script next) (stateOf (given c) s), calls-few (n - (taken + 1)) script next)
+  rest-short =
+      omega (
+        arith,
+        lines-short (before + (taken + 1) + 1) (callsFrom (n - (taken + 1)) script next) (stateOf (given c) s),
+        calls-few (n - (taken + 1)) script next,
+      )
 
   pub goes-on : Left script n before s₀ at₀ out₀ out′ (stateOf (given c) s) next (taken + 1) (written + length (eventLines (before + taken + 1) c s))
   unfolding runState placeFrom rest
@@ -118,7 +139,9 @@ module _ (script : List ℕ) (n before : ℕ) (s₀ : Held) (at₀ : ℕ) (out�
         states = sym (ap (λ cs. runState cs s) this) ∙ l .states;
         places = sym (ap (λ k. placeFrom k script at) turn ∙ ap (λ r. placeBy r at (λ q. placeFrom (n - (taken + 1)) script q)) found) ∙ l .places;
         lengths = omega (arith, l .lengths, ap length lines ∙ length-append w rest);
-        bytes = ap (λ o. putAt o (written + length w) rest) put ∙ put-append out written w rest (written + length w) refl (omega (arith, short, rest-short)) ∙ ap (putAt out written) (sym lines) ∙ l .bytes;
+        bytes =
+            ap (λ o. putAt o (written + length w) rest) put ∙ put-append out written w rest (written + length w) refl (omega (arith, short, rest-short))
+            ∙ ap (putAt out written) (sym lines) ∙ l .bytes;
       }
 
 -- ---- no event is left, or none stands here
@@ -135,19 +158,23 @@ module _ (n taken : ℕ) (script : List ℕ) (at : ℕ) where
   module _ (more : taken < n) (place : ℕ) (none-here : item eventOf script at ≡ Bad place) where
     pub none-found : callsFrom (n - taken) script at ≡ []
     unfolding callsFrom
-    none-found = let z : n - taken ≡ suc (n - (taken + 1)) = omega arith in ap (λ k. callsFrom k script at) z ∙ ap (λ r. callsBy r (λ q. callsFrom (n - (taken + 1)) script q)) none-here
+    none-found = let z : n - taken ≡ suc (n - (taken + 1)) = omega arith in
+        ap (λ k. callsFrom k script at) z ∙ ap (λ r. callsBy r (λ q. callsFrom (n - (taken + 1)) script q)) none-here
 
     pub none-moved : placeFrom (n - taken) script at ≡ at
     unfolding placeFrom
-    none-moved = let z : n - taken ≡ suc (n - (taken + 1)) = omega arith in ap (λ k. placeFrom k script at) z ∙ ap (λ r. placeBy r at (λ q. placeFrom (n - (taken + 1)) script q)) none-here
+    none-moved = let z : n - taken ≡ suc (n - (taken + 1)) = omega arith in
+        ap (λ k. placeFrom k script at) z ∙ ap (λ r. placeBy r at (λ q. placeFrom (n - (taken + 1)) script q)) none-here
 
 no-way : false ≡ true → ⊥
 no-way e = let z : _≡_ {A = ℕ} 0 1 = cc in omega arith
 
 -- ---- by what a step answers
 
-module _ (script : List ℕ) (n before : ℕ) (s₀ : Held) (at₀ : ℕ) (out₀ out out′ : List ℕ) (s : Held) (at taken written : ℕ) (more : taken < n) (q : Stepped) where
-  pub turns-on : Left script n before s₀ at₀ out₀ out s at taken written → (r : Reading Call) → item eventOf script at ≡ r → StepsBy r s at (before + taken + 1) written out out′ q → q .moved ≡ true
+module _ (script : List ℕ) (n before : ℕ) (s₀ : Held) (at₀ : ℕ) (out₀ out out′ : List ℕ) (s : Held) (at taken written : ℕ) (more : taken < n)
+    (q : Stepped) where
+  pub turns-on : Left script n before s₀ at₀ out₀ out s at taken written → (r : Reading Call) → item eventOf script at ≡ r
+      → StepsBy r s at (before + taken + 1) written out out′ q → q .moved ≡ true
       → Left script n before s₀ at₀ out₀ out′ (q .state) (q .at) (taken + 1) (q .written)
   turns-on l (Bad place) found (e, kept) moved = let z : false ≡ true = sym (ap (λ x. x .moved) e) ∙ moved in absurd (no-way z)
   turns-on l (Good c next) found (e, put) moved = rw e (goes-on script n before s₀ at₀ out₀ out out′ s at taken written l more c next found put)
@@ -159,7 +186,8 @@ module _ (script : List ℕ) (n before : ℕ) (s₀ : Held) (at₀ : ℕ) (out�
 
 -- ---- nothing more: all were taken, or no event stands here
 
-module _ (script : List ℕ) (n before : ℕ) (s₀ : Held) (at₀ : ℕ) (out₀ out : List ℕ) (s : Held) (at taken written : ℕ) (l : Left script n before s₀ at₀ out₀ out s at taken written)
+module _ (script : List ℕ) (n before : ℕ) (s₀ : Held) (at₀ : ℕ) (out₀ out : List ℕ) (s : Held) (at taken written : ℕ)
+    (l : Left script n before s₀ at₀ out₀ out s at taken written)
     (none-left : callsFrom (n - taken) script at ≡ []) (here : placeFrom (n - taken) script at ≡ at) where
   pub ends-taken : taken ≡ length (callsFrom n script at₀)
   ends-taken = omega (arith, l .calls, ap length none-left)
@@ -183,22 +211,32 @@ module _ (script : List ℕ) (n before : ℕ) (s₀ : Held) (at₀ : ℕ) (out�
 
 -- ---- the run's promise, where nothing is left
 
-pub ended : (script : List ℕ) (p : Running) (budget : ℕ) (out₀ out : List ℕ) (s : Held) (at taken written n before : ℕ) → n ≡ allowance budget (p .left) (length out₀) → before ≡ p .events - p .left
+pub ended : (script : List ℕ) (p : Running) (budget : ℕ) (out₀ out : List ℕ) (s : Held) (at taken written n before : ℕ)
+    → n ≡ allowance budget (p .left) (length out₀) → before ≡ p .events - p .left
     → Left script n before (p .state) (p .at) out₀ out s at taken written → callsFrom (n - taken) script at ≡ [] → placeFrom (n - taken) script at ≡ at
-    → (r : Ran) → r ≡ record { rest = record { state = s; at = at; events = p .events; left = p .left - taken }; taken = taken; written = written } → Runs script p budget out₀ out r
+    → (r : Ran) → r ≡ record { rest = record { state = s; at = at; events = p .events; left = p .left - taken }; taken = taken; written = written }
+    → Runs script p budget out₀ out r
 ended script p budget out₀ out s at taken written n before e f l none-left here r h =
     record {
-      taken = ap (λ x. x .taken) h ∙ ends-taken script n before (p .state) (p .at) out₀ out s at taken written l none-left here ∙ sym (step-count (callsFrom n script (p .at)) (p .state)) ∙ ap (λ m. stepCount (callsFrom m script (p .at)) (p .state)) e;
-      state = ap (λ x. x .rest .state) h ∙ ends-state script n before (p .state) (p .at) out₀ out s at taken written l none-left here ∙ ap (λ m. runState (callsFrom m script (p .at)) (p .state)) e;
-      place = ap (λ x. x .rest .at) h ∙ ends-place script n before (p .state) (p .at) out₀ out s at taken written l none-left here ∙ ap (λ m. placeFrom m script (p .at)) e;
+      taken =
+          ap (λ x. x .taken) h ∙ ends-taken script n before (p .state) (p .at) out₀ out s at taken written l none-left here
+          ∙ sym (step-count (callsFrom n script (p .at)) (p .state)) ∙ ap (λ m. stepCount (callsFrom m script (p .at)) (p .state)) e;
+      state =
+          ap (λ x. x .rest .state) h ∙ ends-state script n before (p .state) (p .at) out₀ out s at taken written l none-left here
+          ∙ ap (λ m. runState (callsFrom m script (p .at)) (p .state)) e;
+      place =
+          ap (λ x. x .rest .at) h ∙ ends-place script n before (p .state) (p .at) out₀ out s at taken written l none-left here
+          ∙ ap (λ m. placeFrom m script (p .at)) e;
       events = ap (λ x. x .rest .events) h;
       left = ap (λ x. x .rest .left) h ∙ ap (λ k. p .left - k) (sym (ap (λ x. x .taken) h));
       written = ap (λ x. x .written) h ∙ ends-written script n before (p .state) (p .at) out₀ out s at taken written l none-left here ∙ ap length all-lines;
       bytes = ends-bytes script n before (p .state) (p .at) out₀ out s at taken written l none-left here ∙ ap (putAt out₀ 0) all-lines;
     }
   where
-    all-lines : runLines (before + 1) (callsFrom n script (p .at)) (p .state) ≡ runLines (nextNumber p) (callsFrom (allowance budget (p .left) (length out₀)) script (p .at)) (p .state)
-    all-lines = ap (λ k. runLines (k + 1) (callsFrom n script (p .at)) (p .state)) f ∙ ap (λ m. runLines (nextNumber p) (callsFrom m script (p .at)) (p .state)) e
+    all-lines : runLines (before + 1) (callsFrom n script (p .at)) (p .state)
+        ≡ runLines (nextNumber p) (callsFrom (allowance budget (p .left) (length out₀)) script (p .at)) (p .state)
+    all-lines =
+        ap (λ k. runLines (k + 1) (callsFrom n script (p .at)) (p .state)) f ∙ ap (λ m. runLines (nextNumber p) (callsFrom m script (p .at)) (p .state)) e
 
 -- ---- a budget falls with every run
 

@@ -8,7 +8,8 @@ use denote.Laws.{Is}
 use denote.Enum.Declared as enum
 use Rattle.rules.specs.Model.{Call}
 use Rattle.events.specs.declared.Event.{Event}
-use Rattle.events.specs.declared.Event.the-variants.{NoEvent, Active, Publish, Complete, Observed, Stopped, Failed, Acquire, Sent, Observe, Idle, Stop, Horizon, Begin, Late, Done, Input, Progress}
+use Rattle.events.specs.declared.Event.the-variants.{NoEvent, Active, Publish, Complete, Observed, Stopped, Failed, Acquire, Sent, Observe, Idle, Stop, Horizon}
+use Rattle.events.specs.declared.Event.the-variants.{Begin, Late, Done, Input, Progress}
 use Rattle.events.proofs.Event as event
 use Rattle.events.specs.Told.{toldEvent}
 use Rattle.writable.specs.Demands.{CallFits}

@@ -21,7 +21,8 @@ TakesTheLesser =
 
 -- and the calls that it takes are the first of the script's
 abbrev pub TakesTheFirst : Type 0
-TakesTheFirst = (bytes : List ℕ) (s : Script) (last n : ℕ) → scriptOf bytes ≡ Good s last → n ≤ length (s .events) → callsFrom n bytes (s .eventsAt) ≡ take n (s .events)
+TakesTheFirst =
+    (bytes : List ℕ) (s : Script) (last n : ℕ) → scriptOf bytes ≡ Good s last → n ≤ length (s .events) → callsFrom n bytes (s .eventsAt) ≡ take n (s .events)
 
 -- a run of more budget extends a run of less: it goes on from the state, with the number and at the place where that one ended
 abbrev pub MoreExtendsLess : Type 0
@@ -29,7 +30,8 @@ MoreExtendsLess =
     (bytes : List ℕ) (at m n number : ℕ) (s : Held) → length (callsFrom m bytes at) ≡ m
     → (callsFrom (m + n) bytes at ≡ callsFrom m bytes at ++ callsFrom n bytes (placeFrom m bytes at))
     × (runState (callsFrom (m + n) bytes at) s ≡ runState (callsFrom n bytes (placeFrom m bytes at)) (runState (callsFrom m bytes at) s))
-    × (runLines number (callsFrom (m + n) bytes at) s ≡ runLines number (callsFrom m bytes at) s ++ runLines (number + m) (callsFrom n bytes (placeFrom m bytes at)) (runState (callsFrom m bytes at) s))
+    × (runLines number (callsFrom (m + n) bytes at) s ≡ runLines number (callsFrom m bytes at) s
+    ++ runLines (number + m) (callsFrom n bytes (placeFrom m bytes at)) (runState (callsFrom m bytes at) s))
 
 -- the state of a run is that of the rules' run
 abbrev pub RunFollowsRules : Type 0

@@ -1,6 +1,6 @@
 -- Document 01, "Script and its listing": "A run takes a number of events it may use and reports how many it took, the lesser of the two; refused events
 -- count." What a run of calls leaves of the state held, and what it lists. Assumes nothing.
-use Prim.Native.Nat.{ℕ, zero, suc, _+_, _-_, _/_}
+use Prim.Native.Nat.{ℕ, zero, suc, _+_, _/_}
 use mathlib.Core.Bool.{cond}
 use mathlib.Core.List.{List, [], _∷_, _++_}
 use lib.Dec.{leb}

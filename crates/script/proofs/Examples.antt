@@ -14,7 +14,8 @@ use Rattle.script.specs.Script.{headerOf, scriptOf}
 abbrev tag : ℕ → Tag
 tag seconds = record { seconds = pos seconds; nanoseconds = pos 0; microstep = 0 }
 
-worked-script-reads : scriptOf (text "participants 2\n3\n7\nsettings 3\nterminate\n0\n0\nevents 5\npublish 3 5:0:0\npublish 7 9:0:0\nacquire 2 5:0:0\ncomplete 3 5:0:0 1\nobserved 7 1\n")
+worked-script-reads : scriptOf
+    (text "participants 2\n3\n7\nsettings 3\nterminate\n0\n0\nevents 5\npublish 3 5:0:0\npublish 7 9:0:0\nacquire 2 5:0:0\ncomplete 3 5:0:0 1\nobserved 7 1\n")
     ≡ Good (record {
       participants = 3 ∷ 7 ∷ [];
       policy = TerminateWhenIdle;

@@ -53,7 +53,8 @@ abbrev pub eventsOf : List ℕ → List ℕ → LifecyclePolicy → ℕ → ℕ 
 eventsOf bytes participants policy revision generation at =
     andThen (item (headerOf (text "events") 4096) bytes at)
     (λ count first. andThen (items count eventOf bytes first)
-    (λ events last. ended bytes (record { participants = participants; policy = policy; revision = revision; generation = generation; eventsAt = first; events = events }) last))
+    (λ events last. ended bytes
+    (record { participants = participants; policy = policy; revision = revision; generation = generation; eventsAt = first; events = events }) last))
 
 -- "policy; revision; generation", then the events
 abbrev pub settingsAndEventsOf : List ℕ → List ℕ → ℕ → Reading Script

@@ -9,7 +9,8 @@ use lib.Seq.{take-all}
 use Rattle.numerals.proofs.Splits.{by-order}
 use Rattle.rules.specs.Model.{Call}
 use Rattle.run.specs.Run.{callsFrom, lesser}
-use Rattle.run.proofs.Runs.{takes-the-first, lesser-right}
+use Rattle.run.proofs.Turns.{lesser-right}
+use Rattle.run.proofs.Runs.{takes-the-first}
 use Rattle.session.specs.Open.{startOf}
 use Rattle.session.specs.Listing.{listingOf}
 use Rattle.session.specs.Demands.{ListsTheScript}
@@ -25,6 +26,7 @@ pub lists-the-script : ListsTheScript
 unfolding listingOf startOf
 lists-the-script bytes s last budget short e opens =
     let n = lesser budget (length (s .events)) in
-    let calls : callsFrom n bytes (s .eventsAt) ≡ take budget (s .events) = takes-the-first bytes s last n e (lesser-right budget (length (s .events))) ∙ first-of budget (s .events) in
+    let calls : callsFrom n bytes (s .eventsAt) ≡ take budget (s .events) =
+    takes-the-first bytes s last n e (lesser-right budget (length (s .events))) ∙ first-of budget (s .events) in
     let one : length (s .events) - length (s .events) + 1 ≡ 1 = omega arith in
     rw (short, e, opens, calls, one) refl

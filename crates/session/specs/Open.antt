@@ -39,8 +39,12 @@ nowhere = record { state = blank 0; at = 0; events = 0; left = 0 }
 
 abbrev pub startBy : Reading Script → Running
 startBy (Bad place) = nowhere
-startBy (Good s last) =
-    record { state = openedHeld (s .participants) (s .policy) (s .revision) (s .generation); at = s .eventsAt; events = length (s .events); left = length (s .events) }
+startBy (Good s last) = record {
+  state = openedHeld (s .participants) (s .policy) (s .revision) (s .generation);
+  at = s .eventsAt;
+  events = length (s .events);
+  left = length (s .events);
+}
 
 unfoldable pub startOf : List ℕ → Running
 startOf bytes = cond (isTooLong bytes) nowhere (startBy (scriptOf bytes))

@@ -25,23 +25,33 @@ slice-aggregate-put-actions c = search needs
 
 put-actions-requires : tie.Need-put-actions-requires
 put-actions-requires c κs =
-    let a = c .before .before .before .before .before .before .before .before .before .before .before .before .before .args in
-    let few = takes-few (toldEvent (a .event) (a .listed .now)) (a .state) _ _ (c .before .before .before .before .before .before .before .before .before .take .result) (c .before .before .before .before .before .before .before .before .before .take .ensures) in
-    let told = c .before .before .before .before .put-event .ensures .within in
-    let room = c .before .before .before .before .before .before .before .before .before .before .before .before .before .pre in
-    omega (arith, length-kept (c .before .before .before .before .put-event .ensures) room)
+    let told = c .before .before .before .before in
+    let taken = told .before .before .before .before .before in
+    let entry = taken .before .before .before .before in
+    let a = entry .args in
+    let few = takes-few (toldEvent (a .event) (a .listed .now)) (a .state) _ _ (taken .take .result) (taken .take .ensures) in
+    let within = told .put-event .ensures .within in
+    let room = entry .pre in
+    omega (arith, length-kept (told .put-event .ensures) room)
 
 same-length : tie.Need-same-length
 same-length c = search needs
 
 returns : tie.Need-returns
 returns c =
-    let a = c .before .before .before .before .before .before .before .before .before .before .before .before .before .before .before .before .args in
-    let t = c .before .before .before .before .before .before .before .before .before .before .before .before .take .ensures in
-    let p = c .before .before .before .before .before .before .before .put-event .ensures in
-    let q = c .before .before .put-actions .ensures in
-    let few = takes-few (toldEvent (a .event) (a .listed .now)) (a .state) _ _ (c .before .before .before .before .before .before .before .before .before .before .before .before .take .result) t in
-    lists (toldEvent (a .event) (a .listed .now)) (a .state) (a .number) (a .written) _ _ _ _ _ _ _ _ refl t (λ k e. actions-are-writable (given k) (a .state) (state-fits (a .state) _ (c .before .before .before .before .before .before .before .before .before .before .before .before .before .before .before .before .good .0)) (call-fits (a .event) (a .listed .now) _ (c .before .before .before .before .before .before .before .before .before .before .before .before .before .before .before .before .good .1 .0) k e)) p q (let room = c .before .before .before .before .before .before .before .before .before .before .before .before .before .before .before .before .pre in omega (arith, p .within, q .within))
+    let put = c .before .before in
+    let told = put .before .before .before .before .before in
+    let taken = told .before .before .before .before .before in
+    let entry = taken .before .before .before .before in
+    let a = entry .args in
+    let p = told .put-event .ensures in
+    let q = put .put-actions .ensures in
+    let few = takes-few (toldEvent (a .event) (a .listed .now)) (a .state) _ _ (taken .take .result) (taken .take .ensures) in
+    let room = entry .pre in
+    lists (toldEvent (a .event) (a .listed .now)) (a .state) (a .number) (a .written) _ _ _ _ _ _ _ _ refl (taken .take .ensures)
+    (λ k e. actions-are-writable (given k) (a .state) (state-fits (a .state) _ (entry .good .0))
+    (call-fits (a .event) (a .listed .now) _ (entry .good .1 .0) k e))
+    p q (omega (arith, p .within, q .within))
 
 pub list-event-spec : {M : Type 1} → statement M
 list-event-spec =

@@ -32,7 +32,9 @@ difference-requires : tie.Need-difference-requires Inv-loop μ-loop
 difference-requires c κs = search needs
 
 loop-holds : tie.Need-loop-holds Inv-loop μ-loop
-loop-holds c = let a = c .before .before .before .before .before .args in begins _ _ _ _ _ _ (allowed-fits (a .budget) (a .from .left) (length (a .out .now)) _ (c .before .before .allowance .ensures))
+loop-holds c =
+    let a = c .before .before .before .before .before .args in
+    begins _ _ _ _ _ _ (allowed-fits (a .budget) (a .from .left) (length (a .out .now)) _ (c .before .before .allowance .ensures))
 
 add-step : tie.Need-add-step Inv-loop μ-loop
 add-step c = record { fits = let h = small c in omega arith }
@@ -44,7 +46,13 @@ step-requires : tie.Need-step-requires Inv-loop μ-loop
 step-requires c κs = search needs
 
 sub-came-to : tie.Need-sub-came-to Inv-loop μ-loop
-sub-came-to c = let a = c .before .before .before .before .before .before .before .before .before .before .before .before .before .args in let h = allowed-left (a .budget) (a .from .left) (length (a .out .now)) _ (c .before .before .before .before .before .before .before .before .before .before .allowance .ensures) in let t = c .before .before .before .before .before .before .loop-test .taken in omega arith
+sub-came-to c =
+    let test = c .before .before .before .before .before .before in
+    let allowed = test .before .before .before .before in
+    let a = allowed .before .before .before .args in
+    let h = allowed-left (a .budget) (a .from .left) (length (a .out .now)) _ (allowed .allowance .ensures) in
+    let t = test .loop-test .taken in
+    omega arith
 
 came-to-requires : tie.Need-came-to-requires Inv-loop μ-loop
 came-to-requires c κs = search needs
@@ -54,11 +62,19 @@ same-length c = search needs
 
 returns : tie.Need-returns Inv-loop μ-loop
 returns c =
-    let a = c .before .before .before .before .before .before .before .before .before .before .before .before .before .before .args in
-    let n = c .before .before .before .before .before .before .before .before .before .before .before .allowance .result in
-    let l = c .before .before .before .before .before .before .before .before .loop in
-    let t = turns-not _ _ _ (l .state) (l .at) (l .out) _ _ _ _ _ _ (c .before .before .before .before .before .before .before .loop-test .taken) (c .before .before .before .before .before .step .result) _ refl (c .before .before .before .before .before .step .ensures) (not-true _ (c .before .if1 .taken)) in
-    rw (t .2) (ended (a .script .now) (a .from) (a .budget) (a .out .now) (l .out) (l .state) (l .at) (l .taken) (l .written) n (c .before .before .before .before .before .before .before .before .before .before .difference .result) (c .before .before .before .before .before .before .before .before .before .before .before .allowance .ensures) (c .before .before .before .before .before .before .before .before .before .before .difference .ensures) (l .inv) (t .0) (t .1) _ (c .came-to .ensures))
+    let stepped = c .before .before .before .before .before in
+    let test = stepped .before .before in
+    let loop = test .before in
+    let counted = loop .before .before in
+    let allowed = counted .before in
+    let a = allowed .before .before .before .args in
+    let l = loop .loop in
+    let t =
+    turns-not _ _ _ (l .state) (l .at) (l .out) _ _ _ _ _ _ (test .loop-test .taken) (stepped .step .result) _ refl (stepped .step .ensures)
+    (not-true _ (c .before .if1 .taken)) in
+    rw (t .2)
+    (ended (a .script .now) (a .from) (a .budget) (a .out .now) (l .out) (l .state) (l .at) (l .taken) (l .written) (allowed .allowance .result)
+    (counted .difference .result) (allowed .allowance .ensures) (counted .difference .ensures) (l .inv) (t .0) (t .1) _ (c .came-to .ensures))
 
 add-taken : tie.Need-add-taken Inv-loop μ-loop
 add-taken c = search needs
@@ -67,10 +83,19 @@ loop-less : tie.Need-loop-less Inv-loop μ-loop
 loop-less c = search needs
 
 loop-again : tie.Need-loop-again Inv-loop μ-loop
-loop-again c = turns-on _ _ _ _ _ _ _ _ _ _ _ _ (c .before .before .before .before .before .before .before .loop-test .taken) (c .before .before .before .before .before .step .result) (c .before .before .before .before .before .before .before .before .loop .inv) _ refl (c .before .before .before .before .before .step .ensures) (not-false _ (c .before .if1 .left))
+loop-again c =
+    let stepped = c .before .before .before .before .before in
+    let test = stepped .before .before in
+    turns-on _ _ _ _ _ _ _ _ _ _ _ _ (test .loop-test .taken) (stepped .step .result) (test .before .loop .inv) _ refl (stepped .step .ensures)
+    (not-false _ (c .before .if1 .left))
 
 sub-came-to-2 : tie.Need-sub-came-to-2 Inv-loop μ-loop
-sub-came-to-2 c = let a = c .before .before .before .before .before .before .before .args in let h = allowed-left (a .budget) (a .from .left) (length (a .out .now)) _ (c .before .before .before .before .allowance .ensures) in let t = c .before .loop .inv .few in omega arith
+sub-came-to-2 c =
+    let allowed = c .before .before .before .before in
+    let a = allowed .before .before .before .args in
+    let h = allowed-left (a .budget) (a .from .left) (length (a .out .now)) _ (allowed .allowance .ensures) in
+    let t = c .before .loop .inv .few in
+    omega arith
 
 came-to-requires-2 : tie.Need-came-to-requires-2 Inv-loop μ-loop
 came-to-requires-2 c κs = search needs
@@ -80,12 +105,16 @@ same-length-2 c = search needs
 
 returns-2 : tie.Need-returns-2 Inv-loop μ-loop
 returns-2 c =
-    let a = c .before .before .before .before .before .before .before .before .args in
-    let n = c .before .before .before .before .before .allowance .result in
-    let l = c .before .before .loop in
+    let loop = c .before .before in
+    let counted = loop .before .before in
+    let allowed = counted .before in
+    let a = allowed .before .before .before .args in
+    let n = allowed .allowance .result in
+    let l = loop .loop in
     let done = c .before .loop-test .left in
-    ended (a .script .now) (a .from) (a .budget) (a .out .now) (l .out) (l .state) (l .at) (l .taken) (l .written) n (c .before .before .before .before .difference .result) (c .before .before .before .before .before .allowance .ensures) (c .before .before .before .before .difference .ensures) (l .inv)
-    (all-taken n (l .taken) (a .script .now) (l .at) done) (all-here n (l .taken) (a .script .now) (l .at) done) _ (c .came-to2 .ensures)
+    ended (a .script .now) (a .from) (a .budget) (a .out .now) (l .out) (l .state) (l .at) (l .taken) (l .written) n (counted .difference .result)
+    (allowed .allowance .ensures) (counted .difference .ensures) (l .inv) (all-taken n (l .taken) (a .script .now) (l .at) done)
+    (all-here n (l .taken) (a .script .now) (l .at) done) _ (c .came-to2 .ensures)
 
 pub run-spec : {M : Type 1} → statement M
 run-spec =

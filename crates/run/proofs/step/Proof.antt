@@ -17,7 +17,8 @@ stays-requires c κs = search needs
 returns : tie.Need-returns
 returns c =
     let a = c .before .before .before .before .before .args in
-    unended (a .script .now) (a .at) (a .state) (a .number) (a .written) (a .out .now) _ (c .stays .ensures) _ (c .before .before .is-ended .ensures) (c .before .if1 .taken)
+    unended (a .script .now) (a .at) (a .state) (a .number) (a .written) (a .out .now) _ (c .stays .ensures)
+    _ (c .before .before .is-ended .ensures) (c .before .if1 .taken)
 
 line-from-requires : tie.Need-line-from-requires
 line-from-requires c κs = search needs

@@ -44,7 +44,9 @@ returns-3 c =
     let after = first .before .before .before in
     let line = after .before in
     let test = line .before in
-    let is = policy-terminate _ _ (line .line-from .ensures) (sym (first .before .same-bytes .ensures) ∙ first .if2 .left) (sym (c .before .same-bytes2 .ensures) ∙ c .if3 .taken) in
+    let is =
+    policy-terminate _ _ (line .line-from .ensures) (sym (first .before .same-bytes .ensures) ∙ first .if2 .left)
+    (sym (c .before .same-bytes2 .ensures) ∙ c .if3 .taken) in
     sym (item-good _ _ _ _ _ _ (test .before .is-ended .ensures) (test .if1 .left) (after .place-after .ensures) is)
 
 slice-aggregate-same-bytes-3 : tie.Need-slice-aggregate-same-bytes-3

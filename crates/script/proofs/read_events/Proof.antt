@@ -24,7 +24,8 @@ returns : tie.Need-returns
 returns c =
     let header = c .before .before .before in
     let a = header .before .before .before .args in
-    λ ps kept. c .refused .ensures ∙ events-uncounted (a .bytes .now) ps _ _ _ (a .at) (count-bad (a .at) (c .before .enum-told .given .1) (header .header-at .ensures))
+    λ ps kept. c .refused .ensures
+    ∙ events-uncounted (a .bytes .now) ps _ _ _ (a .at) (count-bad (a .at) (c .before .enum-told .given .1) (header .header-at .ensures))
 
 pass-events-requires : tie.Need-pass-events-requires
 pass-events-requires c κs = search needs

@@ -1,4 +1,5 @@
--- `script::read_participants` gathers so many indices: what is gathered of the rest from here, over the places filled, is what is gathered of all. Assumes nothing.
+-- `script::read_participants` gathers so many indices: what is gathered of the rest from here, over the places filled, is what is gathered of all. Assumes
+-- nothing.
 use mathlib.Core.Path.{_≡_, refl, sym}
 use Prim.Native.Nat.{_-_}
 use native.Mathlib.Omega.{arith}
@@ -36,7 +37,8 @@ enum-told c = search needs
 returns : tie.Need-returns Inv-loop μ-loop
 returns c =
     let test = c .before .before .before in
-    gather-bad wordOf _ _ _ _ _ _ (test .before .loop .inv .0) (test .loop-test .taken) (count-bad _ (c .enum-told .given .1) (c .before .before .number-at .ensures))
+    gather-bad wordOf _ _ _ _ _ _ (test .before .loop .inv .0) (test .loop-test .taken)
+    (count-bad _ (c .enum-told .given .1) (c .before .before .number-at .ensures))
 
 put-index-requires : tie.Need-put-index-requires Inv-loop μ-loop
 put-index-requires c κs =

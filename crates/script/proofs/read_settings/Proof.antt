@@ -18,7 +18,8 @@ refused-requires : tie.Need-refused-requires
 refused-requires c κs = search needs
 
 returns : tie.Need-returns
-returns c = λ ps kept. c .refused .ensures ∙ settings-bad _ ps _ (count-bad _ (c .before .enum-told .given .1) (c .before .before .before .settings-at .ensures))
+returns c =
+    λ ps kept. c .refused .ensures ∙ settings-bad _ ps _ (count-bad _ (c .before .enum-told .given .1) (c .before .before .before .settings-at .ensures))
 
 policy-at-requires : tie.Need-policy-at-requires
 policy-at-requires c κs = search needs
