@@ -1,0 +1,2 @@
+pub mod Loan
+pub mod Roomy
