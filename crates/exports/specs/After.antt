@@ -1,5 +1,6 @@
 -- What the call that a host's numbers tell, if any, leaves: the state, the reply in numbers, every byte of the room. What tells no call is refused 11
 -- and changes nothing. Assumes nothing.
+use mathlib.Core.Path.{_≡_}
 use mathlib.Core.List.{List}
 use mathlib.Core.Option.{Option, none, some}
 use Prim.Native.Nat.{ℕ}
@@ -27,3 +28,8 @@ replyAfter (some c) room s = replyNumbers (refusalOf (lent room c) s) (answerOf 
 unfoldable pub roomAfter : Option Call → List ℕ → Held → List ℕ
 roomAfter none room s = room
 roomAfter (some c) room s = putAt room 0 (recordsOf (actionsOf (lent (length room) c) s))
+
+-- from this state and room, this next state, reply and room
+abbrev pub Gives : Option Call → Held → List ℕ → Held → ReplyNumbers → List ℕ → Type 0
+Gives o s room next reply after =
+    (next ≡ stateAfter o (length room) s) × (reply ≡ replyAfter o (length room) s) × (after ≡ roomAfter o room s)

@@ -1,3 +1,2 @@
 pub mod After
 pub mod Opened
-pub mod Asked

@@ -3,21 +3,21 @@
 // refused as document 01 says of what it names.
 ghost use mathlib.Core.Path.{_≡_};
 ghost use mathlib.Core.Option.{none, some};
-ghost use lib.ListN.{length};
 ghost use Rattle.actions.specs.Reading.{readAction};
+ghost use Rattle.asking.specs.Asked.{askedOf};
 ghost use Rattle.plain.specs.Given.{callOf};
 ghost use Rattle.plain.specs.Read.{readNumbers};
-ghost use Rattle.exports.specs.After.{stateAfter, replyAfter, roomAfter};
+ghost use Rattle.plain.specs.Replied.{numbersOf};
+ghost use Rattle.exports.specs.After.{Gives};
 ghost use Rattle.exports.specs.Opened.{policyOf, openedNumbers};
-ghost use Rattle.exports.specs.Asked.{askedOf};
+use asking::AskedNumbers;
+use calls::Called;
 use plain::ActionNumbers;
-use plain::AskedNumbers;
 use plain::CallNumbers;
 use plain::ReplyNumbers;
 use records::LifecyclePolicy;
 use records::Refusal;
 use state::FederateCoordinationState;
-use tags::OptionalTag;
 
 // 0 and the opened state, or why there is none and the blank state of no participant.
 #[repr(C)]
@@ -26,42 +26,29 @@ pub struct OpenedNumbers {
     pub state: FederateCoordinationState,
 }
 
-// A call's next state and its reply.
-struct Taken {
-    state: FederateCoordinationState,
-    reply: ReplyNumbers,
-}
-
 fn called(
     state: FederateCoordinationState,
     call: CallNumbers,
     listed: &[u32],
     room: &mut [u8],
-) -> Taken
-    ensures { λ r. ⌜ (r .state ≡ stateAfter (callOf call (now (listed .entry))) (length (now (room .entry))) state)
-        × (r .reply ≡ replyAfter (callOf call (now (listed .entry))) (length (now (room .entry))) state)
-        × (now (room .exit) ≡ roomAfter (callOf call (now (listed .entry))) (now (room .entry)) state) ⌝ }
+) -> Called
+    ensures { λ r. ⌜ Gives (callOf call (now (listed .entry))) state (now (room .entry)) (r .state) (numbersOf (r .reply)) (now (room .exit)) ⌝ }
 {
     let event = plain::event_of(call, listed);
-    let done = take::take(state, event, listed, room);
+    take::take(state, event, listed, room)
+}
+
+fn state_of(done: Called) -> FederateCoordinationState
+    ensures { λ r. ⌜ r ≡ done .state ⌝ }
+{
+    done.state
+}
+
+fn reply_of(done: Called) -> ReplyNumbers
+    ensures { λ r. ⌜ r ≡ numbersOf (done .reply) ⌝ }
+{
     let reply = done.reply;
-    let next = done.state;
-    Taken {
-        state: next,
-        reply: plain::reply_numbers(reply),
-    }
-}
-
-fn state_of(taken: Taken) -> FederateCoordinationState
-    ensures { λ r. ⌜ r ≡ taken .state ⌝ }
-{
-    taken.state
-}
-
-fn reply_of(taken: Taken) -> ReplyNumbers
-    ensures { λ r. ⌜ r ≡ taken .reply ⌝ }
-{
-    taken.reply
+    plain::reply_numbers(reply)
 }
 
 // The call that the numbers tell, on the state lent; an `input` names the listed enclaves. 11 where they tell none.
@@ -72,14 +59,12 @@ pub extern "C" fn federate_call(
     listed: &[u32],
     room: &mut [u8],
 ) -> ReplyNumbers
-    ensures { λ r. ⌜ (now (state .exit) ≡ stateAfter (callOf call (now (listed .entry))) (length (now (room .entry))) (now (state .entry)))
-        × (r ≡ replyAfter (callOf call (now (listed .entry))) (length (now (room .entry))) (now (state .entry)))
-        × (now (room .exit) ≡ roomAfter (callOf call (now (listed .entry))) (now (room .entry)) (now (state .entry))) ⌝ }
+    ensures { λ r. ⌜ Gives (callOf call (now (listed .entry))) (now (state .entry)) (now (room .entry)) (now (state .exit)) r (now (room .exit)) ⌝ }
 {
     let old = *state;
-    let taken = called(old, call, listed, room);
-    *state = state_of(taken);
-    reply_of(taken)
+    let done = called(old, call, listed, room);
+    *state = state_of(done);
+    reply_of(done)
 }
 
 fn opened(
@@ -144,8 +129,7 @@ pub extern "C" fn federate_open(
     }
 }
 
-// The query of this number: 1 revision, 2 generation, 3 phase, 4 stopped, 5 settled, 6 first failure, 7 grant horizon, 8 completed frontier,
-// 9 pending publication, 10 revision that awaits its idle confirmation, 11 candidate of the enclave; 11 is also what any other number is refused.
+// The query of this number, as `asking::ask` numbers them; 11 for a number that is none's.
 #[no_mangle]
 pub extern "C" fn federate_ask(
     state: FederateCoordinationState,
@@ -154,26 +138,7 @@ pub extern "C" fn federate_ask(
 ) -> AskedNumbers
     ensures { λ r. ⌜ r ≡ askedOf question enclave state ⌝ }
 {
-    match question {
-        1 => plain::number_asked(queries::revision(state)),
-        2 => plain::number_asked(queries::generation(state)),
-        3 => plain::phase_asked(queries::phase(state)),
-        4 => plain::bool_asked(queries::is_stopped(state)),
-        5 => plain::bool_asked(queries::is_settled(state)),
-        6 => plain::enclave_asked(queries::first_failure(state)),
-        7 => plain::tag_asked(queries::grant_horizon(state)),
-        8 => plain::tag_asked(queries::completed_frontier(state)),
-        9 => plain::publication_asked(queries::pending_publication(state)),
-        10 => plain::revision_asked(queries::idle_confirmation_revision(state)),
-        11 => plain::candidate_asked(queries::candidate(state, enclave)),
-        0 | 12..=255 => plain::asked(
-            Refusal::ScriptOutOfForm,
-            false,
-            0,
-            OptionalTag::NoTag,
-            OptionalTag::NoTag,
-        ),
-    }
+    asking::ask(state, question, enclave)
 }
 
 // The action whose record the first 56 bytes are, or 28.

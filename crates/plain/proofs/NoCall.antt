@@ -11,7 +11,8 @@ module _ (n : CallNumbers) (es : List ℕ) where
   abbrev Not : ℕ → Type 0
   Not k = n .kind ≡ k → ⊥
 
-  pub no-kind : Not 1 → Not 2 → Not 3 → Not 4 → Not 5 → Not 6 → Not 7 → Not 8 → Not 9 → Not 10 → Not 11 → Not 12 → Not 13 → Not 14 → Not 15 → Not 16 → Not 17 → none ≡ callOf n es
+  pub no-kind : Not 1 → Not 2 → Not 3 → Not 4 → Not 5 → Not 6 → Not 7 → Not 8 → Not 9 → Not 10 → Not 11 → Not 12 → Not 13 → Not 14 → Not 15 → Not 16
+      → Not 17 → none ≡ callOf n es
   unfolding callOf
   no-kind a b c d e f g h i j k l m o p q r =
       rw (

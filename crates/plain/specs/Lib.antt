@@ -1,5 +1,4 @@
 pub mod Tags
 pub mod Given
 pub mod Replied
-pub mod Asked
 pub mod Read

@@ -1,36 +1,23 @@
-// What a host gives and gets, as plain numbers in C's layout: calls, replies, answers of queries and actions read back. New here: the Rust hands
+// What a host gives and gets, as plain numbers in C's layout: calls, replies and actions read back. New here: the Rust hands
 // out enums and a `Vec`. A kind of call or an observation that has no meaning tells no call; every other function is total and refuses nothing.
 ghost use mathlib.Core.Path.{_≡_};
 ghost use mathlib.Core.Bool.{false};
-ghost use Rattle.records.specs.Numbers.{refusalNumber};
 ghost use Rattle.rules.specs.Model.{NoTag, At};
 ghost use Rattle.state.specs.Cells.{enclaveIf};
 ghost use Rattle.events.specs.Told.{toldEvent};
 ghost use Rattle.plain.specs.Tags.{tagIf, tagNumbers};
 ghost use Rattle.plain.specs.Given.{callOf, observeBy};
-ghost use Rattle.plain.specs.Replied.{answerNumber, replyNumbers};
-ghost use Rattle.plain.specs.Asked.{askedWith, numberAsked, boolAsked, phaseAsked, tagAsked, enclaveAsked, revisionAsked, publicationAsked, candidateAsked};
+ghost use Rattle.plain.specs.Replied.{answerNumber, numbersOf};
 ghost use Rattle.plain.specs.Read.{numbersWith, actionNumbers, readNumbers};
 use actions::ReadAction;
 use calls::Reply;
 use events::Event;
-use queries::BoolAnswer;
-use queries::CandidateAnswer;
-use queries::EnclaveAnswer;
-use queries::FoundCandidate;
-use queries::NumberAnswer;
-use queries::PhaseAnswer;
-use queries::PublicationAnswer;
-use queries::RevisionAnswer;
-use queries::TagAnswer;
 use records::Answer;
 use records::CoordinationAction;
 use records::FederateCompletion;
 use records::FederatePublication;
 use records::Observation;
 use records::OptionalEnclave;
-use records::OptionalNumber;
-use records::OptionalPublication;
 use records::Refusal;
 use tags::OptionalTag;
 use tags::Tag;
@@ -71,18 +58,6 @@ pub struct ReplyNumbers {
     pub actions: usize,
 }
 
-// A query's answer. What the query does not answer by is 0 or absent.
-#[repr(C)]
-pub struct AskedNumbers {
-    pub refusal: u8,
-    // Whether what may be absent is there, and whether the enclave of a candidate is known; yes for any other query.
-    pub present: bool,
-    pub number: u64,
-    pub first: TagNumbers,
-    // The horizon of a publication.
-    pub second: TagNumbers,
-}
-
 // An action read from its record, or 28 and nothing else. What its kind does not use is 0, absent or no.
 #[repr(C)]
 pub struct ActionNumbers {
@@ -108,7 +83,8 @@ fn optional_tag(given: TagNumbers) -> OptionalTag
     OptionalTag::NoTag
 }
 
-fn tag_numbers(tag: OptionalTag) -> TagNumbers
+// The numbers of a tag that may be absent.
+pub fn tag_numbers(tag: OptionalTag) -> TagNumbers
     ensures { λ r. ⌜ r ≡ tagNumbers tag ⌝ }
 {
     match tag {
@@ -189,7 +165,7 @@ fn answer_number(answer: Answer) -> u8
 
 // The numbers of a reply.
 pub fn reply_numbers(reply: Reply) -> ReplyNumbers
-    ensures { λ r. ⌜ r ≡ replyNumbers (refusalNumber (reply .refusal)) (reply .answer) (reply .actions) ⌝ }
+    ensures { λ r. ⌜ r ≡ numbersOf reply ⌝ }
 {
     let refusal = reply.refusal;
     let answer = reply.answer;
@@ -197,149 +173,6 @@ pub fn reply_numbers(reply: Reply) -> ReplyNumbers
         refusal: records::refusal_number(refusal),
         answer: answer_number(answer),
         actions: reply.actions,
-    }
-}
-
-// The numbers of an answer's parts.
-pub fn asked(
-    refusal: Refusal,
-    present: bool,
-    number: u64,
-    first: OptionalTag,
-    second: OptionalTag,
-) -> AskedNumbers
-    ensures { λ r. ⌜ r ≡ askedWith (refusalNumber refusal) present number first second ⌝ }
-{
-    AskedNumbers {
-        refusal: records::refusal_number(refusal),
-        present,
-        number,
-        first: tag_numbers(first),
-        second: tag_numbers(second),
-    }
-}
-
-// The answer of a number.
-pub fn number_asked(a: NumberAnswer) -> AskedNumbers
-    ensures { λ r. ⌜ r ≡ numberAsked (refusalNumber (a .refusal)) (a .answer) ⌝ }
-{
-    let refusal = a.refusal;
-    asked(
-        refusal,
-        true,
-        a.answer,
-        OptionalTag::NoTag,
-        OptionalTag::NoTag,
-    )
-}
-
-// The answer of yes, 1, or no, 0.
-pub fn bool_asked(a: BoolAnswer) -> AskedNumbers
-    ensures { λ r. ⌜ r ≡ boolAsked (refusalNumber (a .refusal)) (a .answer) ⌝ }
-{
-    let refusal = a.refusal;
-    let number = if a.answer { 1 } else { 0 };
-    asked(
-        refusal,
-        true,
-        number,
-        OptionalTag::NoTag,
-        OptionalTag::NoTag,
-    )
-}
-
-// The answer of a phase, by its number.
-pub fn phase_asked(a: PhaseAnswer) -> AskedNumbers
-    ensures { λ r. ⌜ r ≡ phaseAsked (refusalNumber (a .refusal)) (a .answer) ⌝ }
-{
-    let refusal = a.refusal;
-    let phase = a.answer;
-    let number = records::phase_number(phase) as u64;
-    asked(
-        refusal,
-        true,
-        number,
-        OptionalTag::NoTag,
-        OptionalTag::NoTag,
-    )
-}
-
-// The answer of an enclave.
-pub fn enclave_asked(a: EnclaveAnswer) -> AskedNumbers
-    ensures { λ r. ⌜ r ≡ enclaveAsked (refusalNumber (a .refusal)) (a .answer) ⌝ }
-{
-    let refusal = a.refusal;
-    let answer = a.answer;
-    match answer {
-        OptionalEnclave::NoEnclave => {
-            asked(refusal, false, 0, OptionalTag::NoTag, OptionalTag::NoTag)
-        }
-        OptionalEnclave::Enclave(e) => {
-            asked(
-                refusal,
-                true,
-                e as u64,
-                OptionalTag::NoTag,
-                OptionalTag::NoTag,
-            )
-        }
-    }
-}
-
-// The answer of a tag.
-pub fn tag_asked(a: TagAnswer) -> AskedNumbers
-    ensures { λ r. ⌜ r ≡ tagAsked (refusalNumber (a .refusal)) (a .answer) ⌝ }
-{
-    let refusal = a.refusal;
-    let tag = a.answer;
-    asked(refusal, tags::is_present(tag), 0, tag, OptionalTag::NoTag)
-}
-
-// The answer of a revision.
-pub fn revision_asked(a: RevisionAnswer) -> AskedNumbers
-    ensures { λ r. ⌜ r ≡ revisionAsked (refusalNumber (a .refusal)) (a .answer) ⌝ }
-{
-    let refusal = a.refusal;
-    let answer = a.answer;
-    match answer {
-        OptionalNumber::NoNumber => {
-            asked(refusal, false, 0, OptionalTag::NoTag, OptionalTag::NoTag)
-        }
-        OptionalNumber::Number(n) => {
-            asked(refusal, true, n, OptionalTag::NoTag, OptionalTag::NoTag)
-        }
-    }
-}
-
-// The answer of a publication.
-pub fn publication_asked(a: PublicationAnswer) -> AskedNumbers
-    ensures { λ r. ⌜ r ≡ publicationAsked (refusalNumber (a .refusal)) (a .answer) ⌝ }
-{
-    let refusal = a.refusal;
-    let answer = a.answer;
-    match answer {
-        OptionalPublication::NonePending => {
-            asked(refusal, false, 0, OptionalTag::NoTag, OptionalTag::NoTag)
-        }
-        OptionalPublication::Pending(p) => {
-            let next_event = p.next_event;
-            let grant_horizon = p.grant_horizon;
-            asked(refusal, true, p.revision, next_event, grant_horizon)
-        }
-    }
-}
-
-// The answer of a candidate.
-pub fn candidate_asked(a: CandidateAnswer) -> AskedNumbers
-    ensures { λ r. ⌜ r ≡ candidateAsked (refusalNumber (a .refusal)) (a .answer) ⌝ }
-{
-    let refusal = a.refusal;
-    let answer = a.answer;
-    match answer {
-        FoundCandidate::Unknown => {
-            asked(refusal, false, 0, OptionalTag::NoTag, OptionalTag::NoTag)
-        }
-        FoundCandidate::Known(tag) => asked(refusal, true, 0, tag, OptionalTag::NoTag),
     }
 }
 

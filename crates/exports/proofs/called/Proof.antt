@@ -1,5 +1,4 @@
 -- `exports::called` keeps what taking the event promises, in numbers. Assumes nothing.
-use mathlib.Core.Path.{_∙_}
 use borrow.Author.Needs.{needs}
 use Rattle.exports.proofs.Numbered.{called-numbered}
 use Rattle.exports.proofs.called.Statement.{statement}
@@ -11,17 +10,12 @@ event-of-requires c κs = search needs
 take-requires : tie.Need-take-requires
 take-requires c κs = search needs
 
-reply-numbers-requires : tie.Need-reply-numbers-requires
-reply-numbers-requires c κs = search needs
-
 same-length : tie.Need-same-length
 same-length c = search needs
 
 returns : tie.Need-returns
-returns c =
-    let n = called-numbered _ _ (c .before .before .before .before .before .before .before .event-of .ensures) _ _ _ _ (c .before .before .before .before .before .take .ensures) in
-    (n .0, c .reply-numbers .ensures ∙ n .1, n .2)
+returns c = called-numbered _ _ (c .before .before .before .before .event-of .ensures) _ _ _ _ (c .before .before .take .ensures)
 
 pub called-spec : {M : Type 1} → statement M
 called-spec =
-    tie.close (tie.spec event-of-requires take-requires reply-numbers-requires same-length returns)
+    tie.close (tie.spec event-of-requires take-requires same-length returns)

@@ -27,7 +27,9 @@ returns-3 : tie.Need-returns-3
 returns-3 c = c .opened3 .ensures ∙ rw (c .before .match .keys3)
 
 returns-4 : tie.Need-returns-4
-returns-4 c = c .no-policy .ensures ∙ rw (ne-eqb _ _ (c .before .match .rest .0 .0 .1), ne-eqb _ _ (c .before .match .rest .0 .1), ne-eqb _ _ (c .before .match .rest .1))
+returns-4 c =
+    let r = c .before .match .rest in
+    c .no-policy .ensures ∙ rw (ne-eqb _ _ (r .0 .0 .1), ne-eqb _ _ (r .0 .1), ne-eqb _ _ (r .1))
 
 pub federate-open-spec : {M : Type 1} → statement M
 federate-open-spec =

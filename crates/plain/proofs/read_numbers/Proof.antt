@@ -27,7 +27,12 @@ returns : tie.Need-returns
 returns c = c .action-numbers .ensures ∙ ap readNumbers (sym (c .before .before .found .given .1))
 
 returns-2 : tie.Need-returns-2
-returns-2 c = rw (c .before .before .before .enum-told .given .1, c .before .before .refusal-number .ensures, c .before .tag-numbers .ensures, c .tag-numbers2 .ensures)
+returns-2 c = rw (
+  c .before .before .before .enum-told .given .1,
+  c .before .before .refusal-number .ensures,
+  c .before .tag-numbers .ensures,
+  c .tag-numbers2 .ensures,
+)
 
 pub read-numbers-spec : {M : Type 1} → statement M
 read-numbers-spec =

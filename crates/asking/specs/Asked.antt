@@ -10,8 +10,8 @@ use Rattle.rules.specs.Queries.{Asked, isSettled, idleConfirmationRevision, can
 use Rattle.state.specs.declared.FederateCoordinationState.{FederateCoordinationState as Held}
 use Rattle.queries.specs.declared.FoundCandidate.the-variants.{Unknown}
 use Rattle.queries.specs.Asked.{askHeld, candidateAs}
-use Rattle.plain.specs.declared.AskedNumbers.{AskedNumbers}
-use Rattle.plain.specs.Asked.{askedWith, numberAsked, boolAsked, phaseAsked, tagAsked, enclaveAsked, revisionAsked, publicationAsked, candidateAsked}
+use Rattle.asking.specs.declared.AskedNumbers.{AskedNumbers}
+use Rattle.asking.specs.Answered.{askedWith, numberAsked, boolAsked, phaseAsked, tagAsked, enclaveAsked, revisionAsked, publicationAsked, candidateAsked}
 
 -- a refusal and an answer in these numbers
 abbrev pub told : {A : Type 0} → (ℕ → A → AskedNumbers) → Asked A → AskedNumbers

@@ -6,8 +6,8 @@ use Rattle.records.specs.Numbers.{phaseNumber}
 use Rattle.rules.specs.Model.{OptionalTag, NoTag, CoordinationPhase, OptionalNumber, NoNumber, Number, OptionalEnclave, NoEnclave, Enclave, OptionalPublication, NonePending, Pending}
 use Rattle.queries.specs.declared.FoundCandidate.{FoundCandidate}
 use Rattle.queries.specs.declared.FoundCandidate.the-variants.{Unknown, Known}
-use Rattle.plain.specs.declared.AskedNumbers.{AskedNumbers}
 use Rattle.plain.specs.Tags.{tagNumbers}
+use Rattle.asking.specs.declared.AskedNumbers.{AskedNumbers}
 
 abbrev pub askedWith : ℕ → Bool → ℕ → OptionalTag → OptionalTag → AskedNumbers
 askedWith refusal present number first second =

@@ -1,12 +1,12 @@
--- `exports::federate_ask` answers the question of this number, or refuses it. Assumes nothing.
+-- `asking::ask` answers the question of this number, or refuses it. Assumes nothing.
 use mathlib.Core.Path.{_∙_}
 use mathlib.Core.Logic.{⊎-elim}
 use borrow.Author.Needs.{needs}
-use Rattle.plain.specs.Asked.{numberAsked, boolAsked, phaseAsked, tagAsked, enclaveAsked, revisionAsked, publicationAsked, candidateAsked}
-use Rattle.exports.specs.Asked.{askedOf}
-use Rattle.exports.proofs.Numbered.{told-by, no-question}
-use Rattle.exports.proofs.federate_ask.Statement.{statement}
-use Rattle.exports.proofs.federate_ask.Tie as tie
+use Rattle.asking.specs.Answered.{numberAsked, boolAsked, phaseAsked, tagAsked, enclaveAsked, revisionAsked, publicationAsked, candidateAsked}
+use Rattle.asking.specs.Asked.{askedOf}
+use Rattle.asking.proofs.Numbered.{told-by, no-question}
+use Rattle.asking.proofs.ask.Statement.{statement}
+use Rattle.asking.proofs.ask.Tie as tie
 
 revision-requires : tie.Need-revision-requires
 revision-requires c κs = search needs
@@ -74,8 +74,8 @@ candidate-requires c κs = search needs
 candidate-asked-requires : tie.Need-candidate-asked-requires
 candidate-asked-requires c κs = search needs
 
-asked-requires : tie.Need-asked-requires
-asked-requires c κs = search needs
+untagged-requires : tie.Need-untagged-requires
+untagged-requires c κs = search needs
 
 returns : tie.Need-returns
 unfolding askedOf
@@ -124,15 +124,16 @@ returns-11 c = c .candidate-asked .ensures ∙ told-by candidateAsked _ _ _ (c .
 returns-12 : tie.Need-returns-12
 unfolding askedOf
 returns-12 c =
-    c .asked .ensures ∙
+    c .untagged .ensures ∙
     ⊎-elim (λ w. rw (w .keys12))
     (λ w.
     let r = w .rest .0 in
-    no-question _ _ _ (r .0 .0 .0 .0 .0 .0 .0 .0 .0 .0 .1) (r .0 .0 .0 .0 .0 .0 .0 .0 .0 .1) (r .0 .0 .0 .0 .0 .0 .0 .0 .1) (r .0 .0 .0 .0 .0 .0 .0 .1) (r .0 .0 .0 .0 .0 .0 .1) (r .0 .0 .0 .0 .0 .1) (r .0 .0 .0 .0 .1) (r .0 .0 .0 .1) (r .0 .0 .1) (r .0 .1) (r .1))
+    no-question _ _ _ (r .0 .0 .0 .0 .0 .0 .0 .0 .0 .0 .1) (r .0 .0 .0 .0 .0 .0 .0 .0 .0 .1) (r .0 .0 .0 .0 .0 .0 .0 .0 .1) (r .0 .0 .0 .0 .0 .0 .0 .1)
+    (r .0 .0 .0 .0 .0 .0 .1) (r .0 .0 .0 .0 .0 .1) (r .0 .0 .0 .0 .1) (r .0 .0 .0 .1) (r .0 .0 .1) (r .0 .1) (r .1))
     (c .before .match .came)
 
-pub federate-ask-spec : {M : Type 1} → statement M
-federate-ask-spec =
+pub ask-spec : {M : Type 1} → statement M
+ask-spec =
     tie.close
     (tie.spec
     revision-requires
@@ -157,7 +158,7 @@ federate-ask-spec =
     revision-asked-requires
     candidate-requires
     candidate-asked-requires
-    asked-requires
+    untagged-requires
     returns
     returns-2
     returns-3

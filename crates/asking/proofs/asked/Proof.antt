@@ -1,7 +1,7 @@
--- `plain::asked` meets its contract, field by field. Assumes nothing.
+-- `asking::asked` meets its contract, field by field. Assumes nothing.
 use borrow.Author.Needs.{needs}
-use Rattle.plain.proofs.asked.Statement.{statement}
-use Rattle.plain.proofs.asked.Tie as tie
+use Rattle.asking.proofs.asked.Statement.{statement}
+use Rattle.asking.proofs.asked.Tie as tie
 
 refusal-number-requires : tie.Need-refusal-number-requires
 refusal-number-requires c κs = search needs

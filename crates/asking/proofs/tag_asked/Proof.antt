@@ -1,8 +1,8 @@
--- `plain::tag_asked` meets its contract, by what its calls ensure. Assumes nothing.
+-- `asking::tag_asked` meets its contract, by what its calls ensure. Assumes nothing.
 use mathlib.Core.Path.{_∙_}
 use borrow.Author.Needs.{needs}
-use Rattle.plain.proofs.tag_asked.Statement.{statement}
-use Rattle.plain.proofs.tag_asked.Tie as tie
+use Rattle.asking.proofs.tag_asked.Statement.{statement}
+use Rattle.asking.proofs.tag_asked.Tie as tie
 
 is-present-requires : tie.Need-is-present-requires
 is-present-requires c κs = search needs
