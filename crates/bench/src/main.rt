@@ -1,118 +1,64 @@
-// Drives every public call that changes the state, and the two that ask the gate of an enclave, taken and refused, and prints one line for each result:
-// document 01's bench cases P1, P2, P3 and P5, then the gate, the idle phases, the failures and the refusals 3, 4, 7, 8, 9 and 27. The events stand in the file
-// stdin; the file stdout was held against document 01 by hand. The rest of the public calls is driven by `bench_queries`.
-mod event;
-mod run;
+// Drives the public calls that `rig_scenario` does not: openings with their refusals 5, 2, 6 and 1, every query in states that tell its answers apart and on a
+// state that is refused 27, `delay` with 7 and 10 (P4 is its first), the verdicts, and action records with 28. P5 is the third line of queries. The file
+// stdout was held against document 01 by hand.
+mod alone;
+mod ask;
+mod say;
 
-use libc::STDIN_FILENO;
+use alone::open;
+use ask::ask;
 use records::LifecyclePolicy;
-use run::run;
 use state::FederateCoordinationState;
 
-// Room for the actions of 32 participants.
-fn wide_room() -> [u8; 1904] {
-    [0; 1904]
+fn room() -> [u8; 224] {
+    [0; 224]
 }
 
-// A byte less than two participants ask for.
-fn narrow_room() -> [u8; 223] {
-    [0; 223]
+fn stop(state: FederateCoordinationState) -> FederateCoordinationState {
+    let mut space = room();
+    let called = observation::stop(state, &mut space);
+    called.state
 }
 
-fn open(enclaves: &[u32], policy: LifecyclePolicy, generation: u64) -> FederateCoordinationState {
-    let opened = opening::new(enclaves, policy, 0, generation);
-    opened.state
+fn revive(state: FederateCoordinationState) -> FederateCoordinationState {
+    let nobody: [u32; 0] = [];
+    let called = gate::input_publishing(state, &nobody);
+    called.state
 }
 
-// This many events from this row of the script, for these enclaves.
-fn play(
-    case: &[u8],
-    script: &[u8],
-    row: usize,
-    count: usize,
-    enclaves: &[u32],
-    policy: LifecyclePolicy,
-    generation: u64,
-) {
-    let mut space = wide_room();
-    let opened = open(enclaves, policy, generation);
-    run(case, script, row, count, opened, &mut space);
+// A sound state as a caller could build it: idle confirmation awaited, a publication pending, a failure stored.
+fn built(opened: FederateCoordinationState) -> FederateCoordinationState {
+    let mut state = opened;
+    let mut coordination = opened.coordination;
+    coordination.phase = 5;
+    coordination.pending = true;
+    coordination.pending_revision = 4;
+    state.coordination = coordination;
+    state.failed = true;
+    state.first_failure = 7;
+    state
 }
 
-fn play_narrow(case: &[u8], script: &[u8], row: usize, count: usize, enclaves: &[u32]) {
-    let mut space = narrow_room();
-    let opened = open(enclaves, LifecyclePolicy::KeepAlive, 0);
-    run(case, script, row, count, opened, &mut space);
-}
-
-// The state of nobody is refused 27, whatever the room.
-fn play_all(script: &[u8], nobody: &[u32], two: &[u32], three: &[u32]) {
-    play(
-        b"P1",
-        script,
-        0,
-        5,
-        two,
-        LifecyclePolicy::TerminateWhenIdle,
-        0,
-    );
-    play(
-        b"P2",
-        script,
-        0,
-        5,
-        two,
-        LifecyclePolicy::TerminateWhenIdle,
-        18446744073709551615,
-    );
-    play(
-        b"P3",
-        script,
-        5,
-        8,
-        three,
-        LifecyclePolicy::TerminateWhenIdle,
-        0,
-    );
-    play(
-        b"P5",
-        script,
-        89,
-        2,
-        two,
-        LifecyclePolicy::TerminateWhenIdle,
-        0,
-    );
-    play(b"gate", script, 13, 24, two, LifecyclePolicy::KeepAlive, 0);
-    play(
-        b"idle",
-        script,
-        37,
-        19,
-        two,
-        LifecyclePolicy::CoordinatedTermination,
-        0,
-    );
-    play(b"keep", script, 56, 3, two, LifecyclePolicy::KeepAlive, 0);
-    play(
-        b"fail",
-        script,
-        59,
-        6,
-        two,
-        LifecyclePolicy::TerminateWhenIdle,
-        0,
-    );
-    play(b"good", script, 65, 12, two, LifecyclePolicy::KeepAlive, 0);
-    play_narrow(b"narrow", script, 77, 12, two);
-    play_narrow(b"blank", script, 77, 12, nobody);
+// Built by hand, then stopped, then revived (P5).
+fn queries(opened: FederateCoordinationState) {
+    ask(b"built", built(opened), 7);
+    let stopped = stop(opened);
+    ask(b"stopped", stopped, 3);
+    ask(b"P5", revive(stopped), 9);
 }
 
 fn main() {
+    let enclaves: [u32; 2] = [7, 3];
+    let too_many: [u32; 33] = [9; 33];
+    let twice: [u32; 3] = [5, 4095, 5];
+    let large: [u32; 3] = [5, 4096, 5];
     let nobody: [u32; 0] = [];
-    let two: [u32; 2] = [7, 3];
-    let three: [u32; 3] = [0, 1, 2];
-    let mut script = io::buffer();
-    let length = io::read_full(STDIN_FILENO, &mut script);
-    play_all(&script[..length], &nobody, &two, &three);
+    queries(open(&enclaves, LifecyclePolicy::CoordinatedTermination, 8));
+    open(&too_many, LifecyclePolicy::KeepAlive, 0);
+    open(&twice, LifecyclePolicy::KeepAlive, 0);
+    open(&large, LifecyclePolicy::KeepAlive, 0);
+    ask(b"blank", open(&nobody, LifecyclePolicy::KeepAlive, 0), 3);
+    alone::delays();
+    alone::verdicts();
+    alone::records();
 }

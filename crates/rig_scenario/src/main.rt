@@ -108,8 +108,8 @@ fn counted(tally: Tally, called: Called, agreed: bool) -> Tally {
 fn play_line(played: Played, line: &[u8], room: &mut [u8], other_room: &mut [u8]) -> Played {
     let before = played.state;
     let tally = played.tally;
-    let event = events::read_event(line);
-    let named = events::enclaves(line);
+    let event = eventlines::read_event(line);
+    let named = eventlines::enclaves(line);
     let lent = lend(before, event, &named, room);
     let valued = take::take(before, event, &named, other_room);
     let agreed = agree(before, lent, valued, room, other_room);
@@ -144,7 +144,7 @@ fn play_at(
     if script.len() <= at {
         return played;
     }
-    play_line(played, script::line_at(script, at), room, other_room)
+    play_line(played, reader::line_from(script, at), room, other_room)
 }
 
 // All lines of the script, from this state.
@@ -167,7 +167,7 @@ fn play(
     say(name);
     while i < 100 {
         played = play_at(played, script, at, room, other_room);
-        at = sum(script::end_of(script, at), 1);
+        at = reader::place_after(script, at);
         i += 1;
     }
     let tally = played.tally;

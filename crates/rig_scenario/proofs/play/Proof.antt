@@ -21,11 +21,8 @@ loop-holds c = (refl, refl)
 play-at-requires : tie.Need-play-at-requires Inv-loop μ-loop
 play-at-requires c κs = search needs
 
-end-of-requires : tie.Need-end-of-requires Inv-loop μ-loop
-end-of-requires c κs = search needs
-
-sum-requires : tie.Need-sum-requires Inv-loop μ-loop
-sum-requires c κs = search needs
+place-after-requires : tie.Need-place-after-requires Inv-loop μ-loop
+place-after-requires c κs = search needs
 
 add-i : tie.Need-add-i Inv-loop μ-loop
 add-i c = search needs
@@ -57,8 +54,7 @@ play-spec =
     say-requires
     loop-holds
     play-at-requires
-    end-of-requires
-    sum-requires
+    place-after-requires
     add-i
     loop-less
     loop-again

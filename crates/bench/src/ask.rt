@@ -1,14 +1,14 @@
 // Every query on one line: its name, the refusal's number and what it answers.
+use crate::say::say;
+use crate::say::say_bool;
+use crate::say::say_number;
+use crate::say::say_optional_enclave;
+use crate::say::say_optional_number;
+use crate::say::say_optional_tag;
+use crate::say::say_publication;
 use queries::FoundCandidate;
 use records::OptionalPublication;
 use records::Refusal;
-use showing::say::say;
-use showing::say::say_bool;
-use showing::say::say_number;
-use showing::say::say_optional_enclave;
-use showing::say::say_optional_number;
-use showing::say::say_optional_tag;
-use showing::say::say_publication;
 use state::FederateCoordinationState;
 
 fn say_query(name: &[u8], refusal: Refusal) {

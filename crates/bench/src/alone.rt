@@ -1,14 +1,14 @@
 // The calls that take no state: openings, `delay`, the verdicts, and action records written and read.
+use crate::say::say;
+use crate::say::say_bool;
+use crate::say::say_number;
+use crate::say::say_tag;
+use actions::ReadAction;
 use delay::Duration;
 use records::CoordinationAction;
 use records::CoordinationPhase;
 use records::LifecyclePolicy;
 use records::Observation;
-use showing::say::say;
-use showing::say::say_bool;
-use showing::say::say_number;
-use showing::say::say_tag;
-use showing::show::say_read;
 use state::FederateCoordinationState;
 use tags::Tag;
 
@@ -72,6 +72,15 @@ pub fn verdicts() {
     show_verdict(CoordinationPhase::Probing, Observation::Probed);
     show_verdict(CoordinationPhase::Parking, Observation::Probed);
     show_verdict(CoordinationPhase::Active, Observation::Probed);
+}
+
+// The kind of the action that was read, or 28.
+fn say_read(bytes: &[u8]) {
+    let found = actions::read_action(bytes);
+    match found {
+        ReadAction::NoActionRecord => say(b" 28"),
+        ReadAction::Action(action) => say_number(records::action_number(action) as u64),
+    }
 }
 
 // Whether the record fits at the place of a room for one, and what the room then holds.
