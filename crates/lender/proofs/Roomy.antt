@@ -39,8 +39,7 @@ use Rattle.calls.proofs.Reply as P
 use Rattle.calls.proofs.Reply.Laws as P′
 use Rattle.calls.proofs.Called as S
 use Rattle.calls.proofs.Called.Laws as S′
-use Rattle.rig.proofs.Lending.{R, state-val, state-vals}
-use Rattle.rig.proofs.Roomy.{room-val}
+use Rattle.rig.proofs.Lending.{R, state-val, state-vals, slice-val}
 use Rattle.lender.proofs.called_of.Symbol.{name as #called-of}
 use Rattle.lender.proofs.Loan.{closing, CalledOf, Lends, Keeps, lends, comes-back, closes}
 
@@ -91,8 +90,8 @@ module _ {M : Type 1} (𝓤 : URA M) (H : Heap 𝓤) (A : Atoms 𝓤) (W : Given
   Answers l α γ w = H .⇛ (ex 𝓤 (λ (c : Reply). sep 𝓤 (sep 𝓤 (mean 𝓤 H A (Both α)) (sem 𝓤 H A (P.the-row .own c (w ∷ [])))) (Ens l α γ c)))
 
   pub record Loans : Type 1 where
-    pub met : (l α : ℕ) (γ : GName) → ent 𝓤 (Pre l α γ) (C f (vptr l 0 ∷ mv ∷ room-val x ∷ []) (Answers l α γ))
-    pub goes : (l α : ℕ) (γ : GName) → ent 𝓤 (sep 𝓤 (mean 𝓤 H A (Both α)) (sep 𝓤 (mean 𝓤 H A (Lends 𝓤 H A W at-mem run α γ l h)) (sem 𝓤 H A (MutSlice (named 1) κ u8 .own x (room-val x ∷ []))))) (Pre l α γ)
+    pub met : (l α : ℕ) (γ : GName) → ent 𝓤 (Pre l α γ) (C f (vptr l 0 ∷ mv ∷ slice-val x ∷ []) (Answers l α γ))
+    pub goes : (l α : ℕ) (γ : GName) → ent 𝓤 (sep 𝓤 (mean 𝓤 H A (Both α)) (sep 𝓤 (mean 𝓤 H A (Lends 𝓤 H A W at-mem run α γ l h)) (sem 𝓤 H A (MutSlice (named 1) κ u8 .own x (slice-val x ∷ []))))) (Pre l α γ)
     pub hears : (l α : ℕ) (γ : GName) (c : Reply) → ent 𝓤 (Ens l α γ c) (ex 𝓤 (Left 𝓤 H A γ x (λ h′ zs. Said (record { state = h′; reply = c }) zs)))
     pub exits : (r : Called) (w : Val) (zs : List ℕ) → Said r zs → length zs ≡ length (x .now) → ent 𝓤 (⋆ 𝓤 H A ((‵ (flft κ q) ⊛ ‵ ftrue) ∷ ‵ (finally u8 (x .name) zs) ∷ ‵ (S.the-row .own r (w ∷ [])) ∷ [])) (Post w)
 
@@ -101,7 +100,7 @@ module _ {M : Type 1} (𝓤 : URA M) (H : Heap 𝓤) (A : Atoms 𝓤) (W : Given
     (f : Name) (N : RattleType) (τ : Ty) (κ : Lft) (q : Share) (h : Held) (m : N .Denot) (mv : Val) (x : RefT (List ℕ))
     (Pre : ℕ → ℕ → GName → SProp 𝓤) (Ens : ℕ → ℕ → GName → Reply → SProp 𝓤) (Said : Called → List ℕ → Type 0) (Post : Val → SProp 𝓤) (loans : Loans 𝓤 H A W at-mem run C f κ q h mv x Pre Ens Said Post) where
   abbrev s : Val
-  s = room-val x
+  s = slice-val x
 
   module _ (l₀ l₁ l₂ l₃ l₄ l₅ l₆ l₇ l₈ l₉ : ℕ) where
     abbrev Rest : Env 𝓤 H

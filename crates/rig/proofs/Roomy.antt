@@ -27,7 +27,7 @@ use denote.Laws.{Is, shows}
 use denote.Memory.{mem, cellAt}
 use denote.Builtin.{u8}
 use denote.Ref.{RefT, MutRef}
-use denote.Slice.{sliceTy, sliceVal, MutSlice, mut-slice-lawful, finally}
+use denote.Slice.{sliceTy, MutSlice, mut-slice-lawful, finally}
 use denote.Steps.{peeks, heard}
 use denote.Struct.Laws as LL
 use denote.Triple.Statement.{Triple}
@@ -43,7 +43,7 @@ use Rattle.calls.proofs.Called as S
 use Rattle.calls.proofs.Called.Laws as S′
 use Rattle.requests.proofs.state_of.Symbol.{name as #state-of}
 use Rattle.requests.proofs.reply_of.Symbol.{name as #reply-of}
-use Rattle.rig.proofs.Lending.{R, state-val, state-vals, lent-ty, copying, storing, StateOf, ReplyOf, copied, stored}
+use Rattle.rig.proofs.Lending.{R, state-val, state-vals, slice-val, lent-ty, copying, storing, StateOf, ReplyOf, copied, stored}
 
 -- the types of the room, of its bytes lent on, and of the room lent on
 abbrev pub room-ty : Ty
@@ -84,10 +84,6 @@ pub says-both : {M : Type 1} {𝓤 : URA M} {H : Heap 𝓤} {A : Atoms 𝓤} {K 
     → Step K W Γ (prop P) Γ (prop (sep 𝓤 P (sep 𝓤 (fact 𝓤 φ) (fact 𝓤 ψ))))
 says-both {𝓤 = 𝓤} t {φ} {ψ} {P} a b = step (λ s. suffices t (sep 𝓤 (sep 𝓤 P (fact 𝓤 φ)) (fact 𝓤 ψ)) (assoc∗ 𝓤 P (fact 𝓤 φ) (fact 𝓤 ψ)) $ says t b $ says t a $ s)
 
--- the machine value of the room
-abbrev pub room-val : RefT (List ℕ) → Val
-room-val x = sliceVal (x .ptr) (length (x .now))
-
 -- what the walk takes of the step and of the wrapper
 module _ {M : Type 1} (𝓤 : URA M) (H : Heap 𝓤) (A : Atoms 𝓤) (C : Calls 𝓤 H) (f : Name) (κ κ′ : Lft) (q q′ : Share) (b o : ℕ) (γ : GName) (h : Held) (mv : Val) (x : RefT (List ℕ))
     (Pre : SProp 𝓤) (Ens : Called → SProp 𝓤) (Said : Called → List ℕ → Type 0) (Post : Val → SProp 𝓤) where
@@ -99,8 +95,8 @@ module _ {M : Type 1} (𝓤 : URA M) (H : Heap 𝓤) (A : Atoms 𝓤) (C : Calls
   Answers w = H .⇛ (ex 𝓤 (λ (r : Called). sep 𝓤 (sep 𝓤 Tokens (sem 𝓤 H A (S.the-row .own r (w ∷ [])))) (Ens r)))
 
   pub record Wraps : Type 1 where
-    pub met : ent 𝓤 Pre (C f (state-val h ∷ mv ∷ room-val x ∷ []) Answers)
-    pub goes : Is R h (state-vals h) → ent 𝓤 (sep 𝓤 Tokens (sem 𝓤 H A (MutSlice (named 0) κ′ u8 .own x (room-val x ∷ [])))) Pre
+    pub met : ent 𝓤 Pre (C f (state-val h ∷ mv ∷ slice-val x ∷ []) Answers)
+    pub goes : Is R h (state-vals h) → ent 𝓤 (sep 𝓤 Tokens (sem 𝓤 H A (MutSlice (named 0) κ′ u8 .own x (slice-val x ∷ [])))) Pre
     pub hears : (r : Called) → ent 𝓤 (Ens r) (ex 𝓤 (Left 𝓤 H A x (Said r)))
     pub exits : (h′ : Held) (c : Reply) (w : Val) (zs : List ℕ) → Said (record { state = h′; reply = c }) zs → length zs ≡ length (x .now)
         → ent 𝓤 (⋆ 𝓤 H A (‵ (fobs γ (R .coded .code h′)) ∷ ‵ (fbor κ (Behind (mem R) b o γ)) ∷ ‵ (flft κ q) ∷ (‵ (flft κ′ q′) ⊛ ‵ ftrue) ∷ ‵ (finally u8 (x .name) zs) ∷ ‵ (P.the-row .own c (w ∷ [])) ∷ [])) (Post w)
@@ -110,7 +106,7 @@ module _ {M : Type 1} (𝓤 : URA M) (H : Heap 𝓤) (A : Atoms 𝓤) (W : Given
     (f : Name) (N : RattleType) (τ : Ty) (κ κ′ : Lft) (q q′ : Share) (b o : ℕ) (γ : GName) (h : Held) (m : N .Denot) (mv : Val) (x : RefT (List ℕ))
     (Pre : SProp 𝓤) (Ens : Called → SProp 𝓤) (Said : Called → List ℕ → Type 0) (Post : Val → SProp 𝓤) (wraps : Wraps 𝓤 H A C f κ κ′ q q′ b o γ h mv x Pre Ens Said Post) where
   abbrev s : Val
-  s = room-val x
+  s = slice-val x
 
   module _ (l₀ l₁ l₂ l₃ l₄ l₅ l₆ l₇ l₈ : ℕ) where
     abbrev Rest : Env 𝓤 H
