@@ -3,7 +3,6 @@ use mathlib.Core.Path.{refl}
 use Prim.Native.Nat.{_+_, _-_, _^_, _<_}
 use native.Mathlib.Omega.{arith}
 use borrow.Author.Needs.{needs}
-use lib.ListN.{length}
 use borrow.Author.Tests.{not-true, not-false}
 use Rattle.run.proofs.Turns.{Left, begins, turns-on, turns-not, all-taken, all-here, allowed-left, allowed-fits, ended}
 use Rattle.run.proofs.run.Statement.{statement}
@@ -21,7 +20,7 @@ small : (c : tie.In-loop Inv-loop μ-loop) → c .before .before .before .differ
 small c =
     let e = c .before .before .before .before .before .before .before in
     let good = e .good .1 .0 .1 .1 .1 .1 in
-    let left = allowed-left (e .args .budget) (e .args .from .left) (length (e .args .out .now)) _ (c .before .before .before .before .allowance .ensures) in
+    let left = allowed-left _ _ _ _ (c .before .before .before .before .allowance .ensures) in
     let taken = c .loop-test .taken in
     omega (arith, good .0 .1, good .1 .0 .1, c .before .before .before .difference .ensures)
 
@@ -32,9 +31,7 @@ difference-requires : tie.Need-difference-requires Inv-loop μ-loop
 difference-requires c κs = search needs
 
 loop-holds : tie.Need-loop-holds Inv-loop μ-loop
-loop-holds c =
-    let a = c .before .before .before .before .before .args in
-    begins _ _ _ _ _ _ (allowed-fits (a .budget) (a .from .left) (length (a .out .now)) _ (c .before .before .allowance .ensures))
+loop-holds c = begins _ _ _ _ _ _ (allowed-fits _ _ _ _ (c .before .before .allowance .ensures))
 
 add-step : tie.Need-add-step Inv-loop μ-loop
 add-step c = record { fits = let h = small c in omega arith }
@@ -49,8 +46,7 @@ sub-came-to : tie.Need-sub-came-to Inv-loop μ-loop
 sub-came-to c =
     let test = c .before .before .before .before .before .before in
     let allowed = test .before .before .before .before in
-    let a = allowed .before .before .before .args in
-    let h = allowed-left (a .budget) (a .from .left) (length (a .out .now)) _ (allowed .allowance .ensures) in
+    let h = allowed-left _ _ _ _ (allowed .allowance .ensures) in
     let t = test .loop-test .taken in
     omega arith
 
@@ -92,8 +88,7 @@ loop-again c =
 sub-came-to-2 : tie.Need-sub-came-to-2 Inv-loop μ-loop
 sub-came-to-2 c =
     let allowed = c .before .before .before .before in
-    let a = allowed .before .before .before .args in
-    let h = allowed-left (a .budget) (a .from .left) (length (a .out .now)) _ (allowed .allowance .ensures) in
+    let h = allowed-left _ _ _ _ (allowed .allowance .ensures) in
     let t = c .before .loop .inv .few in
     omega arith
 
