@@ -27,10 +27,14 @@ fn listings_and_states_are_the_oracles() {
     println!("{events} events, each with its actions and the whole state");
 }
 
-/// Runs the script on both, and gives the number of its events.
+/// Runs the script on both, and gives the number of its events, 0 where it has no good form.
 fn agree(kind: &str, seed: u64, text: &str) -> usize {
-    let ours = listing::listing_with_states(text);
     let theirs = listing_with_states(text.as_bytes());
+    // A long script may break its form, which no call ever sees.
+    if theirs.starts_with("refused 11 ") || theirs.starts_with("refused 12") {
+        return 0;
+    }
+    let ours = listing::listing_with_states(text);
     if ours == theirs {
         return script::read(text).events.len();
     }
