@@ -1,6 +1,7 @@
 -- The walk of a wrapper that lends a room, for a message of any type: copied out, the room lent on to the by-value step, and what it answered stored. All
 -- that is known of the step is that it may be called with what it asks (`met`, `goes`) and what it ensures of its answer and of the room (`hears`); all that
--- is known of the wrapper's promise is that it follows from the same words (`exits`). Assumes nothing.
+-- is known of the wrapper's promise is that it follows from the same words (`exits`). What a contract reads of a parameter at exit is computed from the
+-- parameter's type, so those three are shown in each wrapper's own file, at its message's type. Assumes nothing.
 use mathlib.Core.Path.{_≡_, refl, subst}
 use Prim.Native.Nat.{ℕ}
 use mathlib.Core.List.{[], _∷_, List}
