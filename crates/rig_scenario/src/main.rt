@@ -2,16 +2,13 @@
 // openings, and after each call every cell of the state, the reply and every byte of the room are compared, and where it was refused also the state with
 // the one before it. One line a play: per call its refusal and action count, then `=` where all agree and `!` where not; at last how many did. The last
 // line shows that the comparison tells states apart which differ in one cell.
-mod lend;
-mod same;
-
 use calls::Called;
-use lend::lend;
+use comparing::lend::lend;
+use comparing::same::same_answers;
+use comparing::same::same_states;
 use libc::STDIN_FILENO;
 use libc::STDOUT_FILENO;
 use records::LifecyclePolicy;
-use same::same_answers;
-use same::same_states;
 use state::FederateCoordinationState;
 
 fn say(text: &[u8]) {

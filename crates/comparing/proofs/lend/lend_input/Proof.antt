@@ -1,9 +1,9 @@
--- `rig_scenario::lend::lend_input` is safe: as many enclaves are lent as there are. Assumes nothing.
+-- `comparing::lend::lend_input` is safe: as many enclaves are lent as there are. Assumes nothing.
 use mathlib.Core.Path.{sym}
 use lib.Seq.{length-take-le}
 use borrow.Author.Needs.{needs}
-use Rattle.rig_scenario.proofs.lend.lend_input.Statement.{statement}
-use Rattle.rig_scenario.proofs.lend.lend_input.Tie as tie
+use Rattle.comparing.proofs.lend.lend_input.Statement.{statement}
+use Rattle.comparing.proofs.lend.lend_input.Tie as tie
 
 with-reply-requires : tie.Need-with-reply-requires
 with-reply-requires c κs = search needs
