@@ -1,104 +1,41 @@
-// Every query on one line: its name, the refusal's number and what it answers.
+// Every query by its number, with its answer's numbers: refusal, presence, number, and the tags if there are any.
 use crate::say::say;
 use crate::say::say_bool;
 use crate::say::say_number;
-use crate::say::say_optional_enclave;
-use crate::say::say_optional_number;
-use crate::say::say_optional_tag;
-use crate::say::say_publication;
-use queries::FoundCandidate;
-use records::OptionalPublication;
-use records::Refusal;
+use crate::say::say_tag;
+use plain::TagNumbers;
 use state::FederateCoordinationState;
 
-fn say_query(name: &[u8], refusal: Refusal) {
-    say(name);
-    say_number(records::refusal_number(refusal) as u64);
-}
-
-fn say_pending(publication: OptionalPublication) {
-    match publication {
-        OptionalPublication::NonePending => say(b" -"),
-        OptionalPublication::Pending(p) => say_publication(p),
+fn say_if_present(numbers: TagNumbers) {
+    if numbers.present {
+        let tag = numbers.tag;
+        say_tag(tag);
+        return;
     }
+    say(b" -");
 }
 
-fn say_found(candidate: FoundCandidate) {
-    match candidate {
-        FoundCandidate::Unknown => say(b" unknown"),
-        FoundCandidate::Known(tag) => say_optional_tag(tag),
-    }
-}
-
-fn ask_standing(state: FederateCoordinationState) {
-    let revision = queries::revision(state);
-    let revision_refusal = revision.refusal;
-    say_query(b"; revision", revision_refusal);
-    say_number(revision.answer);
-    let phase = queries::phase(state);
-    let phase_refusal = phase.refusal;
-    let found = phase.answer;
-    say_query(b"; phase", phase_refusal);
-    say_number(records::phase_number(found) as u64);
-    let generation = queries::generation(state);
-    let generation_refusal = generation.refusal;
-    say_query(b"; generation", generation_refusal);
-    say_number(generation.answer);
-}
-
-fn ask_reach(state: FederateCoordinationState) {
-    let frontier = queries::completed_frontier(state);
-    let frontier_refusal = frontier.refusal;
-    let completed = frontier.answer;
-    say_query(b"; frontier", frontier_refusal);
-    say_optional_tag(completed);
-    let horizon = queries::grant_horizon(state);
-    let horizon_refusal = horizon.refusal;
-    let granted = horizon.answer;
-    say_query(b"; horizon", horizon_refusal);
-    say_optional_tag(granted);
-    let settled = queries::is_settled(state);
-    let settled_refusal = settled.refusal;
-    say_query(b"; settled", settled_refusal);
-    say_bool(settled.answer);
-}
-
-fn ask_ends(state: FederateCoordinationState) {
-    let stopped = queries::is_stopped(state);
-    let stopped_refusal = stopped.refusal;
-    say_query(b"; stopped", stopped_refusal);
-    say_bool(stopped.answer);
-    let failure = queries::first_failure(state);
-    let failure_refusal = failure.refusal;
-    let failed = failure.answer;
-    say_query(b"; failure", failure_refusal);
-    say_optional_enclave(failed);
-    let awaited = queries::idle_confirmation_revision(state);
-    let awaited_refusal = awaited.refusal;
-    let revision = awaited.answer;
-    say_query(b"; awaited", awaited_refusal);
-    say_optional_number(revision);
-}
-
-fn ask_events(state: FederateCoordinationState, enclave: u32) {
-    let publication = queries::pending_publication(state);
-    let publication_refusal = publication.refusal;
-    let pending = publication.answer;
-    say_query(b"; pending", publication_refusal);
-    say_pending(pending);
-    let candidate = queries::candidate(state, enclave);
-    let candidate_refusal = candidate.refusal;
-    let found = candidate.answer;
-    say_query(b"; candidate", candidate_refusal);
-    say_found(found);
+fn ask_one(state: FederateCoordinationState, question: u8, enclave: u32) {
+    let asked = asking::ask(state, question, enclave);
+    let first = asked.first;
+    let second = asked.second;
+    say(b";");
+    say_number(question as u64);
+    say(b":");
+    say_number(asked.refusal as u64);
+    say_bool(asked.present);
+    say_number(asked.number);
+    say_if_present(first);
+    say_if_present(second);
 }
 
 // Every query, with the candidate of this enclave.
 pub fn ask(case: &[u8], state: FederateCoordinationState, enclave: u32) {
+    let mut question: u8 = 1;
     say(case);
-    ask_standing(state);
-    ask_reach(state);
-    ask_ends(state);
-    ask_events(state, enclave);
+    while question < 12 {
+        ask_one(state, question, enclave);
+        question += 1;
+    }
     say(b"\n");
 }

@@ -1,9 +1,5 @@
 // What is printed: words and numbers, each value after a space, in the forms of document 01's listing.
 use libc::STDOUT_FILENO;
-use records::FederatePublication;
-use records::OptionalEnclave;
-use records::OptionalNumber;
-use tags::OptionalTag;
 use tags::Tag;
 
 pub fn say(text: &[u8]) {
@@ -44,27 +40,6 @@ pub fn say_tag(tag: Tag) {
     io::print_decimal(STDOUT_FILENO, tag.microstep);
 }
 
-pub fn say_optional_tag(tag: OptionalTag) {
-    match tag {
-        OptionalTag::NoTag => say(b" -"),
-        OptionalTag::At(t) => say_tag(t),
-    }
-}
-
-pub fn say_optional_number(number: OptionalNumber) {
-    match number {
-        OptionalNumber::NoNumber => say(b" -"),
-        OptionalNumber::Number(n) => say_number(n),
-    }
-}
-
-pub fn say_optional_enclave(enclave: OptionalEnclave) {
-    match enclave {
-        OptionalEnclave::NoEnclave => say(b" -"),
-        OptionalEnclave::Enclave(e) => say_number(e as u64),
-    }
-}
-
 // 1 for yes and 0 for no.
 pub fn say_bool(yes: bool) {
     if yes {
@@ -72,13 +47,4 @@ pub fn say_bool(yes: bool) {
         return;
     }
     say(b" 0");
-}
-
-// Revision, next event and horizon.
-pub fn say_publication(publication: FederatePublication) {
-    let next_event = publication.next_event;
-    let horizon = publication.grant_horizon;
-    say_number(publication.revision);
-    say_optional_tag(next_event);
-    say_optional_tag(horizon);
 }

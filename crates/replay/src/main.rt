@@ -65,7 +65,7 @@ fn agrees(script: &[u8], listing: &[u8], part: &mut [u8]) -> bool {
         }
         at = place_after(at, n, listing.len());
         running = ran.rest;
-        budget = run::budget_left(budget, ran.taken);
+        budget = budget::budget_left(budget, ran.taken);
     }
     let state = running.state;
     let n = session::list_end(state, part);

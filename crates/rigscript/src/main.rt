@@ -46,7 +46,7 @@ fn main() {
         let ran = run::run(script, running, budget, listing);
         write_listing(listing, ran.written);
         running = ran.rest;
-        budget = run::budget_left(budget, ran.taken);
+        budget = budget::budget_left(budget, ran.taken);
     }
     let state = running.state;
     let last = session::list_end(state, listing);

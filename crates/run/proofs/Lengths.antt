@@ -27,7 +27,7 @@ use Rattle.take.proofs.Arms.{not-27}
 use Rattle.calls.specs.Called.{lent, refusalOf, actionsOf, answerOf}
 use Rattle.fields.specs.Words.{line, markText, answerText}
 use Rattle.listing.specs.Listing.{actionLine, actionLines, eventLine}
-use Rattle.run.specs.Run.{given, eventLines}
+use Rattle.budget.specs.Run.{given, eventLines}
 
 -- ---- numbers and tags
 

@@ -22,7 +22,7 @@ use Rattle.listing.specs.Listing.{eventLine, actionLines}
 use Rattle.listing.specs.Records.{recordLines}
 use Rattle.listing.proofs.Records.{record-lines}
 use Rattle.take.specs.Takes.{Takes, TakesCall}
-use Rattle.run.specs.Run.{given, eventLines}
+use Rattle.budget.specs.Run.{given, eventLines}
 use Rattle.run.specs.Promises.{ListsBy}
 use Rattle.run.proofs.Lengths.{actions-few}
 

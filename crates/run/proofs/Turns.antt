@@ -5,18 +5,17 @@ use mathlib.Core.Bool.{Bool, true, false, cond}
 use mathlib.Core.List.{List, [], _∷_, _++_}
 use Prim.Native.Nat.{ℕ, zero, suc, _+_, _-_, _*_, _/_, _≤_, _<_}
 use native.Mathlib.Omega.{arith}
-use borrow.Author.Tests.{le-leb, lt-leb, eqb-false}
 use lib.Dec.{eqb}
 use lib.ListN.{length, length-append}
 use Rattle.bytes.specs.Runs.{putAt}
 use Rattle.bytes.proofs.Runs.{put-append, put-nil, length-put}
-use Rattle.numerals.proofs.Splits.{by-order}
 use Rattle.rules.specs.Model.{Call}
 use Rattle.state.specs.declared.FederateCoordinationState.{FederateCoordinationState as Held}
 use Rattle.calls.specs.Called.{stateOf}
 use Rattle.events.specs.Events.{eventOf}
 use Rattle.script.specs.Lines.{Reading, Bad, Good, item}
-use Rattle.run.specs.Run.{given, eventLines, runState, runLines, stepCount, callsBy, placeBy, callsFrom, placeFrom, lesser, allowance}
+use Rattle.budget.specs.Run.{given, eventLines, runState, runLines, stepCount, callsBy, placeBy, callsFrom, placeFrom, allowance}
+use Rattle.budget.proofs.Counts.{calls-few, step-count}
 use Rattle.run.specs.declared.Stepped.{Stepped}
 use Rattle.run.specs.declared.Running.{Running}
 use Rattle.run.specs.declared.Ran.{Ran}
@@ -25,43 +24,12 @@ use Rattle.run.proofs.Lengths.{event-short}
 
 -- ---- lengths
 
-pub calls-few : (n : ℕ) (script : List ℕ) (at : ℕ) → length (callsFrom n script at) ≤ n
-unfolding callsFrom
-calls-few zero script at = omega arith
-calls-few (suc n) script at = go (λ next. calls-few n script next) (item eventOf script at)
-  where
-    go : ((next : ℕ) → length (callsFrom n script next) ≤ n) → (r : Reading Call) → length (callsBy r (λ next. callsFrom n script next)) ≤ suc n
-    go less (Bad place) = omega arith
-    go less (Good c next) = omega (arith, less next)
-
 pub lines-short : (k : ℕ) (cs : List Call) (s : Held) → length (runLines k cs s) ≤ 5600 * length cs
 unfolding runLines
 lines-short k [] s = omega arith
 lines-short k (c ∷ cs) s =
     rw (length-append (eventLines k c s) (runLines (k + 1) cs (stateOf (given c) s)))
     (omega (arith, event-short k c s, lines-short (k + 1) cs (stateOf (given c) s)))
-
-pub step-count : (cs : List Call) (s : Held) → stepCount cs s ≡ length cs
-unfolding stepCount
-step-count [] s = refl
-step-count (c ∷ cs) s = omega (arith, step-count cs (stateOf (given c) s))
-
--- ---- the allowance
-
-lesser-left : (a b : ℕ) → lesser a b ≤ a
-lesser-left a b = by-order a b (λ h. rw (le-leb a b h) (omega arith)) (λ h. rw (lt-leb a b h) (omega arith))
-
-pub lesser-right : (a b : ℕ) → lesser a b ≤ b
-lesser-right a b = by-order a b (λ h. rw (le-leb a b h) h) (λ h. rw (lt-leb a b h) (omega arith))
-
-module _ (budget left room n : ℕ) (e : n ≡ allowance budget left room) where
-  pub allowed-left : n ≤ left
-  unfolding allowance
-  allowed-left = omega (arith, e, lesser-right budget (lesser left (room / 5600)), lesser-left left (room / 5600))
-
-  pub allowed-fits : 5600 * n ≤ room
-  unfolding allowance
-  allowed-fits = omega (arith, e, lesser-right budget (lesser left (room / 5600)), lesser-right left (room / 5600))
 
 -- ---- what is left of a run
 
@@ -237,12 +205,3 @@ ended script p budget out₀ out s at taken written n before e f l none-left her
         ≡ runLines (nextNumber p) (callsFrom (allowance budget (p .left) (length out₀)) script (p .at)) (p .state)
     all-lines =
         ap (λ k. runLines (k + 1) (callsFrom n script (p .at)) (p .state)) f ∙ ap (λ m. runLines (nextNumber p) (callsFrom m script (p .at)) (p .state)) e
-
--- ---- a budget falls with every run
-
-pub budget-falls : (budget taken left : ℕ) → left ≡ cond (eqb taken 0) 0 (budget - taken) → 0 < budget → left < budget
-budget-falls budget taken left e h = go (eqb taken 0) refl e
-  where
-    go : (b : Bool) → eqb taken 0 ≡ b → left ≡ cond b 0 (budget - taken) → left < budget
-    go true q f = omega (arith, f)
-    go false q f = omega (arith, f, eqb-false taken 0 q)

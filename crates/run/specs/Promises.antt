@@ -10,7 +10,7 @@ use Rattle.rules.specs.Model.{Call}
 use Rattle.state.specs.declared.FederateCoordinationState.{FederateCoordinationState as Held}
 use Rattle.calls.specs.Called.{stateOf}
 use Rattle.script.specs.Lines.{Reading, Bad, Good}
-use Rattle.run.specs.Run.{given, eventLines, runState, runLines, stepCount, callsFrom, placeFrom, allowance}
+use Rattle.budget.specs.Run.{given, eventLines, runState, runLines, stepCount, callsFrom, placeFrom, allowance}
 use Rattle.run.specs.declared.Running.{Running}
 use Rattle.run.specs.declared.Ran.{Ran}
 use Rattle.run.specs.declared.Listed.{Listed}

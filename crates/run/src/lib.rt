@@ -1,14 +1,12 @@
 // A script run with an event budget (document 01, "Script and its listing"): each event is read again from its line, taken by its call and listed into lent
 // room. A run takes the lesser of its budget and of the events left, and no more than the room surely holds; refused events count.
 ghost use mathlib.Core.Path.{_≡_};
-ghost use Prim.Native.Nat.{_+_, _-_, _≤_};
-ghost use lib.Dec.{eqb};
+ghost use Prim.Native.Nat.{_+_, _≤_};
 ghost use lib.ListN.{length};
-ghost use mathlib.Core.Bool.{false, cond};
+ghost use mathlib.Core.Bool.{false};
 ghost use Rattle.events.specs.Events.{eventOf};
 ghost use Rattle.events.specs.Told.{toldEvent};
 ghost use Rattle.script.specs.Lines.{item};
-ghost use Rattle.run.specs.Run.{lesser, allowance};
 ghost use Rattle.run.specs.Promises.{Runs, ListsBy, StepsBy};
 use events::Event;
 use state::FederateCoordinationState;
@@ -40,30 +38,6 @@ struct Stepped {
     state: FederateCoordinationState,
     at: usize,
     written: usize,
-}
-
-fn lesser(a: usize, b: usize) -> usize
-    ensures { λ r. ⌜ r ≡ lesser a b ⌝ }
-{
-    if a <= b {
-        return a;
-    }
-    b
-}
-
-fn allowance(budget: usize, left: usize, room: usize) -> usize
-    ensures { λ r. ⌜ r ≡ allowance budget left room ⌝ }
-{
-    lesser(budget, lesser(left, room / 5600))
-}
-
-fn difference(a: usize, b: usize) -> usize
-    ensures { λ r. ⌜ r ≡ a - b ⌝ }
-{
-    if a < b {
-        return 0;
-    }
-    a - b
 }
 
 // Takes the event by its call and lists it from `written` on.
@@ -158,24 +132,14 @@ fn came_to(
     }
 }
 
-// What is left of a budget after so many events: nothing where none was taken, for then none is left to take.
-pub fn budget_left(budget: usize, taken: usize) -> usize
-    ensures { λ r. ⌜ r ≡ cond (eqb taken 0) 0 (budget - taken) ⌝ }
-{
-    if taken == 0 {
-        return 0;
-    }
-    difference(budget, taken)
-}
-
 // Runs at most `budget` events from where the run stands, and lists them from byte 0 of the room on.
 pub fn run(script: &[u8], from: Running, budget: usize, out: &mut [u8]) -> Ran
     ensures { λ r. ⌜ Runs (now (script .entry)) from budget (now (out .entry)) (now (out .exit)) r ⌝ }
 {
     let events = from.events;
     let left = from.left;
-    let allowed = allowance(budget, left, out.len());
-    let before = difference(events, left);
+    let allowed = budget::allowance(budget, left, out.len());
+    let before = budget::difference(events, left);
     let mut state = from.state;
     let mut at = from.at;
     let mut taken: usize = 0;

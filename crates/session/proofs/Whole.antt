@@ -8,9 +8,9 @@ use lib.ListN.{length, take}
 use lib.Seq.{take-all}
 use Rattle.numerals.proofs.Splits.{by-order}
 use Rattle.rules.specs.Model.{Call}
-use Rattle.run.specs.Run.{callsFrom, lesser}
-use Rattle.run.proofs.Turns.{lesser-right}
-use Rattle.run.proofs.Runs.{takes-the-first}
+use Rattle.budget.specs.Run.{callsFrom, lesser}
+use Rattle.budget.proofs.Counts.{lesser-right}
+use Rattle.budget.proofs.Runs.{takes-the-first}
 use Rattle.session.specs.Open.{startOf}
 use Rattle.session.specs.Listing.{listingOf}
 use Rattle.session.specs.Demands.{ListsTheScript}

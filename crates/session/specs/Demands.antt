@@ -7,7 +7,7 @@ use Rattle.rules.specs.Opening.{openingRefusal}
 use Rattle.script.specs.Lines.{Good}
 use Rattle.script.specs.Script.{Script, scriptOf}
 use Rattle.run.specs.Promises.{nextNumber}
-use Rattle.run.specs.Run.{runState, runLines, callsFrom, lesser}
+use Rattle.budget.specs.Run.{runState, runLines, callsFrom, lesser}
 use Rattle.session.specs.Open.{isTooLong, startOf}
 use Rattle.session.specs.Listing.{lastLine, listingOf}
 

@@ -15,7 +15,7 @@ use Rattle.queries.specs.Asked.{askHeld}
 use Rattle.script.specs.Lines.{Reading, Bad, Good}
 use Rattle.script.specs.Script.{Script, scriptOf}
 use Rattle.listing.specs.Listing.{endLine, misplacedLine, refusedLine}
-use Rattle.run.specs.Run.{runState, runLines}
+use Rattle.budget.specs.Run.{runState, runLines}
 use Rattle.session.specs.Open.{isTooLong}
 
 -- "Last: `end`, revision, phase in lower case, generation, completed frontier, horizon, settled."

@@ -1,5 +1,5 @@
 -- `replay::agrees` is safe and ends: the budget falls with every turn. Assumes nothing.
-use Rattle.run.proofs.Turns.{budget-falls}
+use Rattle.budget.proofs.Counts.{budget-falls}
 use mathlib.Core.Path.{_≡_}
 use lib.ListN.{length}
 use borrow.Author.Needs.{needs}

@@ -1,6 +1,6 @@
 -- `rigscript::main` is safe and ends: the budget falls with every turn. Assumes nothing.
 use borrow.Author.Needs.{needs}
-use Rattle.run.proofs.Turns.{budget-falls}
+use Rattle.budget.proofs.Counts.{budget-falls}
 use Rattle.rigscript.proofs.main.Statement.{statement}
 use Rattle.rigscript.proofs.main.Tie as tie
 

@@ -4,7 +4,7 @@ use native.Mathlib.Omega.{arith}
 use Rattle.events.specs.Told.{toldEvent}
 use Rattle.writable.proofs.Declared.{state-fits}
 use Rattle.writable.proofs.ReadBack.{actions-are-writable}
-use Rattle.run.specs.Run.{given}
+use Rattle.budget.specs.Run.{given}
 use Rattle.run.proofs.Lists.{takes-few, length-kept, lists}
 use Rattle.run.proofs.Widths.{call-fits}
 use borrow.Author.Needs.{needs}

@@ -4,7 +4,8 @@ use Prim.Native.Nat.{_+_, _-_, _^_, _<_}
 use native.Mathlib.Omega.{arith}
 use borrow.Author.Needs.{needs}
 use borrow.Author.Tests.{not-true, not-false}
-use Rattle.run.proofs.Turns.{Left, begins, turns-on, turns-not, all-taken, all-here, allowed-left, allowed-fits, ended}
+use Rattle.budget.proofs.Counts.{allowed-left, allowed-fits}
+use Rattle.run.proofs.Turns.{Left, begins, turns-on, turns-not, all-taken, all-here, ended}
 use Rattle.run.proofs.run.Statement.{statement}
 use Rattle.run.proofs.run.Tie as tie
 

@@ -1,8 +1,8 @@
--- `run::budget_left` answers nothing where none was taken, and else the difference. Assumes nothing.
+-- `budget::budget_left` answers nothing where none was taken, and else the difference. Assumes nothing.
 use mathlib.Core.Path.{refl}
 use borrow.Author.Tests.{eq-eqb, ne-eqb}
-use Rattle.run.proofs.budget_left.Statement.{statement}
-use Rattle.run.proofs.budget_left.Tie as tie
+use Rattle.budget.proofs.budget_left.Statement.{statement}
+use Rattle.budget.proofs.budget_left.Tie as tie
 
 returns : tie.Need-returns
 returns c = rw (eq-eqb (c .before .args .taken) 0 (c .if1 .taken)) refl

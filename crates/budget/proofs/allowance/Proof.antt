@@ -1,9 +1,9 @@
--- `run::allowance` is the lesser of the budget, of the events left and of those that surely fit. Assumes nothing.
+-- `budget::allowance` is the lesser of the budget, of the events left and of those that surely fit. Assumes nothing.
 use mathlib.Core.Path.{ap, _∙_}
-use Rattle.run.specs.Run.{lesser, allowance}
+use Rattle.budget.specs.Run.{lesser, allowance}
 use borrow.Author.Needs.{needs}
-use Rattle.run.proofs.allowance.Statement.{statement}
-use Rattle.run.proofs.allowance.Tie as tie
+use Rattle.budget.proofs.allowance.Statement.{statement}
+use Rattle.budget.proofs.allowance.Tie as tie
 
 lesser-requires : tie.Need-lesser-requires
 lesser-requires c κs = search needs

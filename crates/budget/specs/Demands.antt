@@ -11,7 +11,7 @@ use Rattle.state.specs.View.{view, represents}
 use Rattle.state.specs.Parts.{Sized}
 use Rattle.script.specs.Lines.{Good}
 use Rattle.script.specs.Script.{Script, scriptOf}
-use Rattle.run.specs.Run.{given, runState, runLines, stepCount, callsFrom, placeFrom, lesser, allowance}
+use Rattle.budget.specs.Run.{given, runState, runLines, stepCount, callsFrom, placeFrom, lesser, allowance}
 
 -- in a script of good form a run from the first event takes the lesser of its budget and of the events, where the room suffices for them
 abbrev pub TakesTheLesser : Type 0

@@ -8,8 +8,8 @@ use Rattle.state.specs.View.{view}
 use Rattle.calls.specs.Called.{stateOf}
 use Rattle.follows.specs.Demands.{stateAfter}
 use Rattle.follows.proofs.Follows.{run-follows-rules as calls-follow-rules}
-use Rattle.run.specs.Run.{given, runState}
-use Rattle.run.specs.Demands.{RunFollowsRules}
+use Rattle.budget.specs.Run.{given, runState}
+use Rattle.budget.specs.Demands.{RunFollowsRules}
 
 state-after : (cs : List Call) (s : Held) → runState cs s ≡ stateAfter (map given cs) s
 unfolding runState stateAfter

@@ -14,9 +14,9 @@ use Rattle.calls.specs.Called.{stateOf}
 use Rattle.events.specs.Events.{eventOf}
 use Rattle.script.specs.Lines.{Reading, Bad, Good, andThen, item, items}
 use Rattle.script.proofs.Good.{good-script-reads-again}
-use Rattle.run.specs.Run.{given, eventLines, runState, runLines, callsBy, callsFrom, placeBy, placeFrom, lesser, allowance}
-use Rattle.run.proofs.Turns.{lesser-right, step-count}
-use Rattle.run.specs.Demands.{TakesTheLesser, TakesTheFirst, MoreExtendsLess}
+use Rattle.budget.specs.Run.{given, eventLines, runState, runLines, callsBy, callsFrom, placeBy, placeFrom, lesser, allowance}
+use Rattle.budget.proofs.Counts.{lesser-right, step-count}
+use Rattle.budget.specs.Demands.{TakesTheLesser, TakesTheFirst, MoreExtendsLess}
 
 -- ---- what was read after something else: each part was
 

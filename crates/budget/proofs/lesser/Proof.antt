@@ -1,8 +1,8 @@
--- `run::lesser` answers the lesser of the two. Assumes nothing.
+-- `budget::lesser` answers the lesser of the two. Assumes nothing.
 use mathlib.Core.Path.{refl}
 use borrow.Author.Tests.{le-leb, lt-leb}
-use Rattle.run.proofs.lesser.Statement.{statement}
-use Rattle.run.proofs.lesser.Tie as tie
+use Rattle.budget.proofs.lesser.Statement.{statement}
+use Rattle.budget.proofs.lesser.Tie as tie
 
 returns : tie.Need-returns
 returns c = rw (le-leb (c .before .args .a) (c .before .args .b) (c .if1 .taken)) refl
