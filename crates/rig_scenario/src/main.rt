@@ -1,14 +1,16 @@
-// The rig host's calls on a lent state, side by side with the calls by value: the events of the file stdin, in document 01's words, are played on several
-// openings, and after each call every cell of the state, the reply and every byte of the room are compared, and where it was refused also the state with
-// the one before it. One line a play: per call its refusal and action count, then `=` where all agree and `!` where not; at last how many did. The last
-// line shows that the comparison tells states apart which differ in one cell.
+// The rig host's calls on a lent state, side by side with the calls by value: the rows of the file stdin (src/row.rt), all calls taken and refused, are
+// played on several openings, and after each call every cell of the state, the reply and every byte of the room are compared, and where it was refused
+// also the state with the one before it. One line a play: per call its refusal and action count, then `=` where all agree and `!` where not; at last how
+// many did. The last line shows that the comparison tells states apart which differ in one cell.
+mod row;
+
 use calls::Called;
-use comparing::lend::lend;
-use comparing::same::same_answers;
-use comparing::same::same_states;
+use comparing::same_answers;
+use comparing::same_states;
 use libc::STDIN_FILENO;
 use libc::STDOUT_FILENO;
 use records::LifecyclePolicy;
+use row::Row;
 use state::FederateCoordinationState;
 
 fn say(text: &[u8]) {
@@ -19,26 +21,18 @@ fn say_number(number: u64) {
     io::print_decimal(STDOUT_FILENO, number);
 }
 
-// How many calls there were, how many refused, their actions, and how many agreed.
-struct Tally {
+// The state, and how many calls there were and agreed.
+struct Played {
+    state: FederateCoordinationState,
     calls: usize,
-    refused: usize,
-    actions: usize,
     agreed: usize,
 }
 
-struct Played {
-    state: FederateCoordinationState,
-    tally: Tally,
-}
-
-fn sum(total: usize, part: usize) -> usize {
-    if total < 10000 {
-        if part < 10000 {
-            return total + part;
-        }
+fn next(count: usize) -> usize {
+    if count < 10000 {
+        return count + 1;
     }
-    total
+    count
 }
 
 // A refused call leaves the state as it was.
@@ -82,93 +76,117 @@ fn say_call(called: Called, agreed: bool) {
     say(b"!");
 }
 
-fn counted(tally: Tally, called: Called, agreed: bool) -> Tally {
-    let reply = called.reply;
-    let refusal = reply.refusal;
-    let mut refused = tally.refused;
-    let mut same = tally.agreed;
-    if records::refusal_number(refusal) != 0 {
-        refused = sum(refused, 1);
-    }
+fn noted(played: Played, called: Called, agreed: bool) -> Played {
+    let state = called.state;
+    let calls = next(played.calls);
+    say_call(called, agreed);
     if agreed {
-        same = sum(same, 1);
+        return Played {
+            state,
+            calls,
+            agreed: next(played.agreed),
+        };
     }
-    Tally {
-        calls: sum(tally.calls, 1),
-        refused,
-        actions: sum(tally.actions, reply.actions),
-        agreed: same,
-    }
-}
-
-// The call of a line, on the lent state and by value.
-fn play_line(played: Played, line: &[u8], room: &mut [u8], other_room: &mut [u8]) -> Played {
-    let before = played.state;
-    let tally = played.tally;
-    let event = eventlines::read_event(line);
-    let named = eventlines::enclaves(line);
-    let lent = lend(before, event, &named, room);
-    let valued = take::take(before, event, &named, other_room);
-    let agreed = agree(before, lent, valued, room, other_room);
-    say_call(lent, agreed);
-    let after = lent.state;
     Played {
-        state: after,
-        tally: counted(tally, lent, agreed),
+        state,
+        calls,
+        agreed: played.agreed,
     }
 }
 
-fn say_tally(tally: Tally) {
-    say(b"; calls ");
-    say_number(tally.calls as u64);
-    say(b", refused ");
-    say_number(tally.refused as u64);
-    say(b", actions ");
-    say_number(tally.actions as u64);
-    say(b", agreed ");
-    say_number(tally.agreed as u64);
-    say(b"\n");
+fn tell(played: Played, row: Row, room: &mut [u8], other_room: &mut [u8]) -> Played {
+    let before = played.state;
+    let message = row::message_of(row);
+    let lent = lender::lend_scheduler(before, message, room);
+    let valued = federate::handle_scheduler(before, message, other_room);
+    let agreed = agree(before, lent, valued, room, other_room);
+    noted(played, lent, agreed)
 }
 
-// The line at a place of the script, if there is one.
+fn request(played: Played, row: Row, room: &mut [u8], other_room: &mut [u8]) -> Played {
+    let before = played.state;
+    let asked = row::request_of(row);
+    let lent = lender::lend_request(before, asked, room);
+    let valued = requests::handle_request(before, asked, other_room);
+    let agreed = agree(before, lent, valued, room, other_room);
+    noted(played, lent, agreed)
+}
+
+fn change_for(played: Played, row: Row, enclaves: &[u32]) -> Played {
+    let before = played.state;
+    let change = row::change_of(row);
+    let lent = lender::lend_change(before, change, enclaves);
+    let valued = requests::change_gate(before, change, enclaves);
+    let agreed = agree(before, lent, valued, b"", b"");
+    noted(played, lent, agreed)
+}
+
+// An input notice names its enclave, or nobody.
+fn change(played: Played, row: Row) -> Played {
+    let one: [u32; 1] = [row.enclave];
+    if row.named {
+        return change_for(played, row, &one[..1]);
+    }
+    change_for(played, row, &one[..0])
+}
+
+// Digits are changes of the gate, capitals the other calls that take room, small letters the scheduler's messages.
+fn play_row(played: Played, row: Row, room: &mut [u8], other_room: &mut [u8]) -> Played {
+    if row.kind < b'A' {
+        return change(played, row);
+    }
+    if row.kind < b'a' {
+        return request(played, row, room, other_room);
+    }
+    tell(played, row, room, other_room)
+}
+
+// The row at a place of the file, if there is one.
 fn play_at(
     played: Played,
-    script: &[u8],
+    rows: &[u8],
     at: usize,
     room: &mut [u8],
     other_room: &mut [u8],
 ) -> Played {
-    if script.len() <= at {
+    if rows.len() < 4 {
         return played;
     }
-    play_line(played, reader::line_from(script, at), room, other_room)
+    if rows.len() - 4 < at {
+        return played;
+    }
+    let row = row::row_of(rows[at], rows[at + 1], rows[at + 2], rows[at + 3]);
+    play_row(played, row, room, other_room)
 }
 
-// All lines of the script, from this state.
+fn say_count(agreed: usize, calls: usize) {
+    say(b"; agreed ");
+    say_number(agreed as u64);
+    say(b" of ");
+    say_number(calls as u64);
+    say(b"\n");
+}
+
+// All rows of the file, five bytes each, from this state.
 fn play(
     name: &[u8],
-    script: &[u8],
+    rows: &[u8],
     state: FederateCoordinationState,
     room: &mut [u8],
     other_room: &mut [u8],
 ) {
-    let none = Tally {
+    let mut played = Played {
+        state,
         calls: 0,
-        refused: 0,
-        actions: 0,
         agreed: 0,
     };
-    let mut played = Played { state, tally: none };
-    let mut at: usize = 0;
     let mut i: usize = 0;
     say(name);
-    while i < 100 {
-        played = play_at(played, script, at, room, other_room);
-        at = reader::place_after(script, at);
+    while i < 60 {
+        played = play_at(played, rows, 5 * i, room, other_room);
         i += 1;
     }
-    let tally = played.tally;
-    say_tally(tally);
+    say_count(played.agreed, played.calls);
 }
 
 fn wide_room() -> [u8; 224] {
@@ -180,16 +198,16 @@ fn narrow_room() -> [u8; 223] {
     [170; 223]
 }
 
-fn play_wide(name: &[u8], script: &[u8], state: FederateCoordinationState) {
+fn play_wide(name: &[u8], rows: &[u8], state: FederateCoordinationState) {
     let mut room = wide_room();
     let mut other_room = wide_room();
-    play(name, script, state, &mut room, &mut other_room);
+    play(name, rows, state, &mut room, &mut other_room);
 }
 
-fn play_narrow(name: &[u8], script: &[u8], state: FederateCoordinationState) {
+fn play_narrow(name: &[u8], rows: &[u8], state: FederateCoordinationState) {
     let mut room = narrow_room();
     let mut other_room = narrow_room();
-    play(name, script, state, &mut room, &mut other_room);
+    play(name, rows, state, &mut room, &mut other_room);
 }
 
 fn open(policy: LifecyclePolicy, generation: u64) -> FederateCoordinationState {
@@ -233,20 +251,20 @@ fn show_told_apart(state: FederateCoordinationState) {
     say(b"\n");
 }
 
-fn play_all(script: &[u8]) {
+fn play_all(rows: &[u8]) {
     let opened = open(LifecyclePolicy::TerminateWhenIdle, 0);
     let coordinated = open(LifecyclePolicy::CoordinatedTermination, 0);
     let last = open(LifecyclePolicy::TerminateWhenIdle, 18446744073709551615);
-    play_wide(b"terminate", script, opened);
-    play_wide(b"coordinated", script, coordinated);
-    play_wide(b"last generation", script, last);
-    play_narrow(b"narrow", script, opened);
-    play_wide(b"spoilt", script, spoilt(opened));
+    play_wide(b"terminate", rows, opened);
+    play_wide(b"coordinated", rows, coordinated);
+    play_wide(b"last generation", rows, last);
+    play_narrow(b"narrow", rows, opened);
+    play_wide(b"spoilt", rows, spoilt(opened));
     show_told_apart(opened);
 }
 
 fn main() {
-    let mut script = io::buffer();
-    let length = io::read_full(STDIN_FILENO, &mut script);
-    play_all(&script[..length]);
+    let mut rows = io::buffer();
+    let length = io::read_full(STDIN_FILENO, &mut rows);
+    play_all(&rows[..length]);
 }

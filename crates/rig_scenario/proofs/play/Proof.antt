@@ -7,22 +7,22 @@ use Rattle.rig_scenario.proofs.play.Statement.{statement}
 use Rattle.rig_scenario.proofs.play.Tie as tie
 
 abbrev Inv-loop : tie.InvT-loop
-Inv-loop name script room₀ other-room₀ played₀ at₀ i₀ room other-room played at i = (length room ≡ length room₀) × (length other-room ≡ length other-room₀)
+Inv-loop name rows room₀ other-room₀ played₀ i₀ room other-room played i = (length room ≡ length room₀) × (length other-room ≡ length other-room₀)
 
 abbrev μ-loop : tie.MeasureT-loop
-μ-loop name script room₀ other-room₀ played₀ at₀ i₀ room other-room played at i = 100 - i
+μ-loop name rows room₀ other-room₀ played₀ i₀ room other-room played i = 60 - i
 
 say-requires : tie.Need-say-requires Inv-loop μ-loop
-say-requires c κs = search needs
+say-requires c κs = tt
 
 loop-holds : tie.Need-loop-holds Inv-loop μ-loop
 loop-holds c = (refl, refl)
 
-play-at-requires : tie.Need-play-at-requires Inv-loop μ-loop
-play-at-requires c κs = search needs
+mul-play-at : tie.Need-mul-play-at Inv-loop μ-loop
+mul-play-at c = search needs
 
-place-after-requires : tie.Need-place-after-requires Inv-loop μ-loop
-place-after-requires c κs = search needs
+play-at-requires : tie.Need-play-at-requires Inv-loop μ-loop
+play-at-requires c κs = tt
 
 add-i : tie.Need-add-i Inv-loop μ-loop
 add-i c = search needs
@@ -33,8 +33,8 @@ loop-less c = search needs
 loop-again : tie.Need-loop-again Inv-loop μ-loop
 loop-again c = search needs
 
-say-tally-requires : tie.Need-say-tally-requires Inv-loop μ-loop
-say-tally-requires c κs = search needs
+say-count-requires : tie.Need-say-count-requires Inv-loop μ-loop
+say-count-requires c κs = tt
 
 same-length : tie.Need-same-length Inv-loop μ-loop
 same-length c = search needs
@@ -43,7 +43,7 @@ same-length-2 : tie.Need-same-length-2 Inv-loop μ-loop
 same-length-2 c = search needs
 
 returns : tie.Need-returns Inv-loop μ-loop
-returns c = search needs
+returns c = tt
 
 pub play-spec : {M : Type 1} → statement M
 play-spec =
@@ -53,12 +53,12 @@ play-spec =
     μ-loop
     say-requires
     loop-holds
+    mul-play-at
     play-at-requires
-    place-after-requires
     add-i
     loop-less
     loop-again
-    say-tally-requires
+    say-count-requires
     same-length
     same-length-2
     returns)

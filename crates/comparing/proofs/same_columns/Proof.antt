@@ -1,8 +1,8 @@
--- `comparing::same::same_columns` is safe and ends: each turn leaves fewer places. Assumes nothing.
+-- `comparing::same_columns` is safe and ends: each turn leaves fewer places. Assumes nothing.
 use Prim.Native.Nat.{_-_, _≤_}
 use borrow.Author.Needs.{needs}
-use Rattle.comparing.proofs.same.same_columns.Statement.{statement}
-use Rattle.comparing.proofs.same.same_columns.Tie as tie
+use Rattle.comparing.proofs.same_columns.Statement.{statement}
+use Rattle.comparing.proofs.same_columns.Tie as tie
 
 abbrev Inv-loop : tie.InvT-loop
 Inv-loop a b i₀ i = i ≤ 96
