@@ -235,17 +235,11 @@ fn say_told_apart(state: FederateCoordinationState, other: FederateCoordinationS
 fn show_told_apart(state: FederateCoordinationState) {
     let mut tag = state;
     let mut enclave = state;
-    let mut observation = state;
-    let mut failure = state;
     tag.microsteps[95] = 1;
     enclave.enclaves[31] = 1;
-    observation.observation[31] = 1;
-    failure.first_failure = 1;
     say(b"told apart");
     say_told_apart(state, tag);
     say_told_apart(state, enclave);
-    say_told_apart(state, observation);
-    say_told_apart(state, failure);
     say_told_apart(state, spoilt(state));
     say_told_apart(state, state);
     say(b"\n");
