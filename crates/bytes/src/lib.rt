@@ -1,11 +1,12 @@
 // Little-endian fields, two's complement and runs of bytes in lent room (document 01, "Action record, 56 bytes, little-endian").
-// New here: the Rust has no bytes of its own. Every function is total; only `copy_at` answers no, where the run does not fit, and writes nothing.
+// New here: the Rust has no bytes of its own. Every function but `put_run` is total: where the run does not fit, `copy_at` answers no and writes nothing.
 ghost use mathlib.Core.Path.{_≡_};
-ghost use Prim.Native.Nat.{_^_, _≤_, _<_};
+ghost use Prim.Native.Nat.{_+_, _^_, _≤_, _<_};
+ghost use lib.ListN.{length};
 ghost use mir.Syntax.{w32, w64};
 ghost use mir.Val.{ofZ, toZ};
 ghost use Rattle.bytes.specs.LittleEndian.{le, numAt};
-ghost use Rattle.bytes.specs.Runs.{fitsAt, written, sameBytes};
+ghost use Rattle.bytes.specs.Runs.{putAt, fitsAt, written, sameBytes};
 
 // The bits of x in two's complement, as a number.
 pub fn bits64(x: i64) -> u64
@@ -124,6 +125,18 @@ pub fn get8(s: &[u8], at: usize) -> u64
     get(s, at, 8)
 }
 
+// Puts the run into the room from index at on, for a caller who knows that it fits.
+pub fn put_run(room: &mut [u8], at: usize, run: &[u8])
+    requires { ⌜ at + length (now run) ≤ length (now room) ⌝ }
+    ensures { λ _. ⌜ now (room .exit) ≡ putAt (now (room .entry)) at (now (run .entry)) ⌝ }
+{
+    let mut i: usize = 0;
+    while i < run.len() {
+        room[at + i] = run[i];
+        i += 1;
+    }
+}
+
 // Puts the run into the room from index at on and answers yes, or, where it does not fit, answers no and leaves the room as it was.
 pub fn copy_at(room: &mut [u8], at: usize, run: &[u8]) -> bool
     ensures { λ r. ⌜ r ≡ fitsAt (now (room .entry)) at (now (run .entry)) ⌝ }
@@ -135,11 +148,7 @@ pub fn copy_at(room: &mut [u8], at: usize, run: &[u8]) -> bool
     if room.len() - at < run.len() {
         return false;
     }
-    let mut i: usize = 0;
-    while i < run.len() {
-        room[at + i] = run[i];
-        i += 1;
-    }
+    put_run(room, at, run);
     true
 }
 
