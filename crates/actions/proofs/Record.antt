@@ -9,8 +9,8 @@ use lib.Seq.{take-all}
 use Rattle.tags.specs.declared.OptionalTag.{OptionalTag}
 use Rattle.tags.specs.declared.OptionalTag.the-variants.{NoTag, At}
 use Rattle.records.specs.declared.CoordinationAction.{CoordinationAction}
-use Rattle.bytes.specs.Runs.{putAt, written}
-use Rattle.bytes.proofs.Runs.{length-put, put-append, put-whole, written-fits}
+use Rattle.bytes.specs.Runs.{putAt, fitsAt, written}
+use Rattle.bytes.proofs.Runs.{put-append, put-whole, written-fits}
 use Rattle.actions.specs.Record.{fieldsOf, headBytes, optionalBytes, bytesOf, recordOf, recordsOf}
 use Rattle.actions.specs.declared.Fields.{Fields}
 
@@ -23,7 +23,7 @@ pub length-optional : (m : OptionalTag) → length (optionalBytes m) ≡ 20
 length-optional NoTag = refl
 length-optional (At t) = refl
 
-length-bytes : (f : Fields) → length (bytesOf f) ≡ 56
+pub length-bytes : (f : Fields) → length (bytesOf f) ≡ 56
 unfolding bytesOf
 length-bytes f =
     length-append (headBytes f) (optionalBytes (f .first) ++ optionalBytes (f .second))
@@ -51,19 +51,18 @@ put-next room₀ room l a e h =
     rw (e, records-append l (a ∷ []), append-nil)
     (put-append room₀ 0 (recordsOf l) (recordOf a) (56 * length l) (omega (arith, length-records l)) (omega (arith, length-record a)))
 
--- a head and two tags, written one right after the other, are one run
-pub written-three : (l : List ℕ) (at : ℕ) (h t u : List ℕ) → length h ≡ 16 → length t ≡ 20 → length u ≡ 20 → at + 56 ≤ length l
-    → written (written (written l at h) (at + 16) t) (at + 36) u ≡ putAt l at (h ++ t ++ u)
-written-three l at h t u p q r fits =
-    let one : length (putAt l at h) ≡ length l = length-put l at h (omega arith) in
-    let two : length (putAt (putAt l at h) (at + 16) t) ≡ length l = length-put (putAt l at h) (at + 16) t (omega arith) ∙ one in
-    rw (
-      written-fits l at h (omega arith),
-      written-fits (putAt l at h) (at + 16) t (omega arith),
-      written-fits (putAt (putAt l at h) (at + 16) t) (at + 36) u (omega arith),
-      put-append l at h t (at + 16) (omega arith) (omega arith),
-    )
+-- a head and two tags, put one right after the other, are one run
+pub put-three : (l : List ℕ) (at : ℕ) (h t u : List ℕ) → length h ≡ 16 → length t ≡ 20 → length u ≡ 20 → at + 56 ≤ length l
+    → putAt (putAt (putAt l at h) (at + 16) t) (at + 36) u ≡ putAt l at (h ++ t ++ u)
+put-three l at h t u p q r fits =
+    rw (put-append l at h t (at + 16) (omega arith) (omega arith))
     (put-append l at (h ++ t) u (at + 36) (omega (arith, length-append h t)) (omega arith))
+
+-- written as the fields of an action are, its record is written
+pub record-written : (a : CoordinationAction) (f : Fields) (room room′ : List ℕ) (at : ℕ) (r : Bool) → f ≡ fieldsOf a
+    → (r ≡ fitsAt room at (bytesOf f)) × (room′ ≡ written room at (bytesOf f)) → (r ≡ fitsAt room at (recordOf a)) × (room′ ≡ written room at (recordOf a))
+unfolding recordOf
+record-written a f room room′ at r e w = rw (sym e) w
 
 -- a record written at the front of a room of 56 bytes is its first 56 bytes
 pub written-alone : (a : CoordinationAction) (room : List ℕ) → length room ≡ 56 → take 56 (written room 0 (recordOf a)) ≡ recordOf a

@@ -1,6 +1,6 @@
 // Action bytes (document 01, "Action record, 56 bytes, little-endian"): writes actions into lent room and reads them back.
-// New here: the Rust hands out a `Vec` of actions. `write_action` answers no where the record does not fit; `read_action` refuses
-// with 28 what is no action's record.
+// New here: the Rust hands out a `Vec` of actions. `write_action` answers no where the record does not fit, and so do the writers of the kinds with tags, which
+// make no action of their parts first; `read_action` refuses with 28 what is no action's record.
 ghost use mathlib.Core.Path.{_≡_};
 ghost use Prim.Native.Nat.{_+_, _*_, _≤_, _<_};
 ghost use mathlib.Core.Bool.{false, cond, _&&_};
@@ -10,6 +10,7 @@ ghost use Rattle.bytes.specs.Runs.{putAt, fitsAt, written, sameBytes};
 ghost use Rattle.actions.specs.Record.{fields, fieldsOf, flagsOf, headBytes, tagBytes, optionalBytes, firstOf, bytesOf, recordOf, properAction};
 ghost use Rattle.actions.specs.Reading.{flagAt, tagAt, optionalAt, publicationAt, completionAt, candidateOf, readAction};
 ghost use Rattle.tags.specs.declared.OptionalTag.the-variants.{NoTag, At};
+ghost use Rattle.records.specs.declared.CoordinationAction.the-variants.{Publish, AdvanceHorizon, Grant, Complete};
 use records::CoordinationAction;
 use records::FederateCompletion;
 use records::FederatePublication;
@@ -205,9 +206,20 @@ fn put_fields(room: &mut [u8], at: usize, f: Fields)
     let head = head_bytes(f);
     let tag = optional_bytes(first);
     let second_tag = optional_bytes(second);
-    bytes::copy_at(room, at, &head);
-    bytes::copy_at(room, at + 16, &tag);
-    bytes::copy_at(room, at + 36, &second_tag);
+    bytes::put_run(room, at, &head);
+    bytes::put_run(room, at + 16, &tag);
+    bytes::put_run(room, at + 36, &second_tag);
+}
+
+fn write_fields(room: &mut [u8], place: usize, f: Fields) -> bool
+    ensures { λ r. ⌜ r ≡ fitsAt (now (room .entry)) (56 * place) (bytesOf f) ⌝ }
+    ensures bytes { λ _. ⌜ now (room .exit) ≡ written (now (room .entry)) (56 * place) (bytesOf f) ⌝ }
+{
+    if room.len() / 56 <= place {
+        return false;
+    }
+    put_fields(room, 56 * place, f);
+    true
 }
 
 // Puts the action's record into the room, right after `place` others, and answers yes, or, where it does not fit, answers no and
@@ -216,12 +228,39 @@ pub fn write_action(room: &mut [u8], place: usize, action: CoordinationAction) -
     ensures { λ r. ⌜ r ≡ fitsAt (now (room .entry)) (56 * place) (recordOf action) ⌝ }
     ensures bytes { λ _. ⌜ now (room .exit) ≡ written (now (room .entry)) (56 * place) (recordOf action) ⌝ }
 {
-    if room.len() / 56 <= place {
-        return false;
-    }
-    let f = fields_of(action);
-    put_fields(room, 56 * place, f);
-    true
+    write_fields(room, place, fields_of(action))
+}
+
+// As `write_action` does for Publish.
+pub fn write_publication(room: &mut [u8], place: usize, publication: FederatePublication) -> bool
+    ensures { λ r. ⌜ r ≡ fitsAt (now (room .entry)) (56 * place) (recordOf (Publish publication)) ⌝ }
+    ensures bytes { λ _. ⌜ now (room .exit) ≡ written (now (room .entry)) (56 * place) (recordOf (Publish publication)) ⌝ }
+{
+    write_fields(room, place, published(publication))
+}
+
+// As `write_action` does for AdvanceHorizon.
+pub fn write_horizon(room: &mut [u8], place: usize, tag: Tag) -> bool
+    ensures { λ r. ⌜ r ≡ fitsAt (now (room .entry)) (56 * place) (recordOf (AdvanceHorizon tag)) ⌝ }
+    ensures bytes { λ _. ⌜ now (room .exit) ≡ written (now (room .entry)) (56 * place) (recordOf (AdvanceHorizon tag)) ⌝ }
+{
+    write_fields(room, place, tagged(2, 0, tag, false))
+}
+
+// As `write_action` does for Grant.
+pub fn write_grant(room: &mut [u8], place: usize, enclave: u32, tag: Tag) -> bool
+    ensures { λ r. ⌜ r ≡ fitsAt (now (room .entry)) (56 * place) (recordOf (Grant enclave tag)) ⌝ }
+    ensures bytes { λ _. ⌜ now (room .exit) ≡ written (now (room .entry)) (56 * place) (recordOf (Grant enclave tag)) ⌝ }
+{
+    write_fields(room, place, tagged(3, enclave, tag, false))
+}
+
+// As `write_action` does for Complete.
+pub fn write_completion(room: &mut [u8], place: usize, completion: FederateCompletion) -> bool
+    ensures { λ r. ⌜ r ≡ fitsAt (now (room .entry)) (56 * place) (recordOf (Complete completion)) ⌝ }
+    ensures bytes { λ _. ⌜ now (room .exit) ≡ written (now (room .entry)) (56 * place) (recordOf (Complete completion)) ⌝ }
+{
+    write_fields(room, place, completed(completion))
 }
 
 fn has_flag(s: &[u8], value: u8) -> bool
