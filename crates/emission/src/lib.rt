@@ -6,7 +6,7 @@ ghost use Prim.Native.Nat.{_+_, _≤_};
 ghost use mathlib.Core.Bool.{cond};
 ghost use lib.Dec.{eqb};
 ghost use Rattle.tags.specs.Tags.{isBelow};
-ghost use Rattle.rules.specs.Model.{CompletionProbe};
+ghost use Rattle.rules.specs.Model.{AdvanceHorizon, Grant, CompletionProbe};
 ghost use Rattle.state.specs.Cells.{optionalOf};
 ghost use Rattle.state.specs.Decides.{saidOf};
 ghost use Rattle.publication.specs.Announce.{announcement};
@@ -23,13 +23,32 @@ use state::COMPLETED;
 use state::Coordination;
 use tags::Tag;
 
-// Adds one action's record; answers how many there are then.
+// Adds one action's record; answers how many there are then. The kinds with tags have their own, which make no action of their parts first.
 pub fn add(room: &mut [u8], written: usize, action: CoordinationAction) -> usize
     requires { ⌜ written ≤ 64 ⌝ }
     ensures { λ r. ⌜ Adds (action ∷ []) (now (room .entry)) written (now (room .exit)) r ⌝ }
     ensures few { λ r. ⌜ r ≡ written + 1 ⌝ }
 {
     actions::write_action(room, written, action);
+    written + 1
+}
+
+// Adds AdvanceHorizon, the first record of its call.
+pub fn add_horizon(room: &mut [u8], tag: Tag) -> usize
+    ensures { λ r. ⌜ Adds (AdvanceHorizon tag ∷ []) (now (room .entry)) 0 (now (room .exit)) r ⌝ }
+    ensures few { λ r. ⌜ r ≡ 1 ⌝ }
+{
+    actions::write_horizon(room, 0, tag);
+    1
+}
+
+// Adds a Grant.
+pub fn add_grant(room: &mut [u8], written: usize, enclave: u32, tag: Tag) -> usize
+    requires { ⌜ written ≤ 64 ⌝ }
+    ensures { λ r. ⌜ Adds (Grant enclave tag ∷ []) (now (room .entry)) written (now (room .exit)) r ⌝ }
+    ensures few { λ r. ⌜ r ≡ written + 1 ⌝ }
+{
+    actions::write_grant(room, written, enclave, tag);
     written + 1
 }
 
@@ -115,7 +134,8 @@ fn add_complete(room: &mut [u8], written: usize, completed: Tag, network_input: 
         completed,
         network_input,
     };
-    add(room, written, CoordinationAction::Complete(completion))
+    actions::write_completion(room, written, completion);
+    written + 1
 }
 
 // The kind where it is said, else 0, which is none.
@@ -147,9 +167,9 @@ fn add_announcement(room: &mut [u8], c: Coordination, resumes: bool, enclave: u3
     };
     let resume = kind_if(resumes, 9);
     let probe = kind_if(is_probing(c), 6);
-    let one = add(room, 0, CoordinationAction::Publish(publication));
-    let two = add_kind(room, one, resume, enclave, c.revision);
-    add_kind(room, two, probe, enclave, c.revision)
+    actions::write_publication(room, 0, publication);
+    let resumed = add_kind(room, 1, resume, enclave, c.revision);
+    add_kind(room, resumed, probe, enclave, c.revision)
 }
 
 // The actions of a message's own rule, from byte 0.

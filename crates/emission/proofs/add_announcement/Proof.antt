@@ -1,7 +1,8 @@
 -- `emission::add_announcement` adds Publish, then Resume and Probe by their kinds: the announcement. Assumes nothing.
+use mathlib.Core.Path.{refl}
 use native.Mathlib.Omega.{arith}
-use Rattle.emission.proofs.Speaking.{announced}
 use borrow.Author.Needs.{needs}
+use Rattle.emission.proofs.Speaking.{announced}
 use Rattle.emission.proofs.add_announcement.Statement.{statement}
 use Rattle.emission.proofs.add_announcement.Tie as tie
 
@@ -20,8 +21,8 @@ is-probing-requires c κs = tt
 kind-if-requires-2 : tie.Need-kind-if-requires-2
 kind-if-requires-2 c κs = tt
 
-add-requires : tie.Need-add-requires
-add-requires c κs = search needs
+write-publication-requires : tie.Need-write-publication-requires
+write-publication-requires c κs = search needs
 
 add-kind-requires : tie.Need-add-kind-requires
 add-kind-requires c κs = search needs
@@ -38,9 +39,11 @@ returns c =
     let o = w .before .before .before .before in
     let k = o .before .before in
     let a = k .before .before .before .before .before .before .before .before .args in (
-      announced (a .c) (a .resumes) _ (a .enclave) _ _ _ _ _ _ _ _ _ _ _ (k .before .before .before .before .optional-of .ensures) (k .before .before .before .optional-of2 .ensures)
-          (k .before .before .kind-if .ensures) (k .before .is-probing .ensures) (k .kind-if2 .ensures) (o .add .ensures .0) (w .add-kind .ensures .0) (c .before .before .add-kind2 .ensures .0),
-      omega (arith, o .add .ensures .1, w .add-kind .ensures .1, c .before .before .add-kind2 .ensures .1),
+      announced (a .c) (a .resumes) _ (a .enclave) _ _ _ _ _ _ _ _ _ _ _
+          (k .before .before .before .before .optional-of .ensures) (k .before .before .before .optional-of2 .ensures)
+          (k .before .before .kind-if .ensures) (k .before .is-probing .ensures) (k .kind-if2 .ensures)
+          (o .write-publication .ensures .1) (w .add-kind .ensures .0) (c .before .before .add-kind2 .ensures .0) refl,
+      omega (arith, w .add-kind .ensures .1, c .before .before .add-kind2 .ensures .1),
     )
 
 pub add-announcement-spec : {M : Type 1} → statement M
@@ -52,7 +55,7 @@ add-announcement-spec =
     kind-if-requires
     is-probing-requires
     kind-if-requires-2
-    add-requires
+    write-publication-requires
     add-kind-requires
     add-kind-requires-2
     same-length
