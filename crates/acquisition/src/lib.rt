@@ -15,7 +15,6 @@ ghost use Rattle.acquisition.specs.Pending.{pendingOf};
 ghost use Rattle.acquisition.specs.Unless.{unlessRefused};
 use calls::Called;
 use records::Answer;
-use records::CoordinationAction;
 use records::FederateAcquisition;
 use records::FederatePublication;
 use records::Refusal;
@@ -129,7 +128,7 @@ pub fn handle_acquisition(
         return calls::with_reply(state, Refusal::Taken, Answer::Silent, 0);
     }
     let reach = acquired.tag;
-    let advanced = emission::add(room, 0, CoordinationAction::AdvanceHorizon { tag: further });
+    let advanced = emission::add_horizon(room, further);
     let written = grants::add_grants(
         room,
         advanced,

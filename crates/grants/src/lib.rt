@@ -13,7 +13,6 @@ ghost use Rattle.state.specs.declared.FederateCoordinationState.{FederateCoordi
 ghost use Rattle.state.specs.Cells.{optionalOf, storedOf};
 ghost use Rattle.state.specs.Decides.{Good};
 ghost use Rattle.grants.specs.Acquire.{storing, granting, grantsOf, Unpublished, Acquires};
-use records::CoordinationAction;
 use state::Coordination;
 use state::Gate;
 use tags::Tag;
@@ -211,14 +210,7 @@ fn add_grant(
     ensures few { λ r. ⌜ r ≤ written + 1 ⌝ }
 {
     if is_grantable(published, candidate, tag) {
-        return emission::add(
-            room,
-            written,
-            CoordinationAction::Grant {
-                enclave,
-                tag: candidate,
-            },
-        );
+        return emission::add_grant(room, written, enclave, candidate);
     }
     written
 }

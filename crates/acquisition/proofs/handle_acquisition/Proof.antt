@@ -134,21 +134,21 @@ returns-3 c =
     stays-promised (length (a .room .now)) (a .acquisition .revision) (a .acquisition .granted) (a .t1) (stands (home q)) (passed q) (d .acquire .result) (decided d)
     (a .room .now) _ (not-true (d .acquire .result .grants) (c .before .if3 .taken)) (c .with-reply3 .ensures)
 
-add-requires : tie.Need-add-requires
-add-requires c κs = search needs
+add-horizon-requires : tie.Need-add-horizon-requires
+add-horizon-requires c κs = search needs
 
 -- where the first record stands
-abbrev chosen : tie.After-add → tie.After-acquire
+abbrev chosen : tie.After-add-horizon → tie.After-acquire
 chosen c = c .before .before .before .before .before .before .before .before
 
 add-grants-requires : tie.Need-add-grants-requires
 add-grants-requires c κs =
     let d = c .before .before .before .before .before .before .before .before .before in
     let n = stands (home (chosen d .before)) .few in
-    let k = d .add .ensures .1 in
+    let k = d .add-horizon .ensures .1 in
     omega arith
 
-abbrev advanced : tie.After-add-grants → tie.After-add
+abbrev advanced : tie.After-add-grants → tie.After-add-horizon
 advanced c = c .before .before .before .before .before .before .before .before .before .before
 
 unpublished-requires : tie.Need-unpublished-requires
@@ -162,7 +162,7 @@ with-reply-requires-4 c κs = tt
 same-length : tie.Need-same-length
 same-length c =
     let w = c .before .before .before .before .before .before .before .before .before in
-    w .add-grants .kept .0 ∙ advanced w .add .kept .0
+    w .add-grants .kept .0 ∙ advanced w .add-horizon .kept .0
 
 returns-4 : tie.Need-returns-4
 returns-4 c =
@@ -173,7 +173,7 @@ returns-4 c =
     let a = start q .args in
     moves-promised (length (a .room .now)) (a .acquisition .revision) (a .acquisition .granted) (a .t1) (stands (home q)) (passed q) (d .acquire .result) (decided d)
     (a .room .now) _ _ _ _ _ _ (none q .0) (not-false (d .acquire .result .grants) (f .before .before .before .if3 .left))
-    (f .add .ensures .0) (w .add-grants .ensures) (c .before .unpublished .ensures) (c .with-reply4 .ensures)
+    (f .add-horizon .ensures .0) (w .add-grants .ensures) (c .before .unpublished .ensures) (c .with-reply4 .ensures)
 
 pub handle-acquisition-spec : {M : Type 1} → statement M
 handle-acquisition-spec =
@@ -191,7 +191,7 @@ handle-acquisition-spec =
     acquire-requires
     with-reply-requires-3
     returns-3
-    add-requires
+    add-horizon-requires
     add-grants-requires
     unpublished-requires
     with-reply-requires-4
