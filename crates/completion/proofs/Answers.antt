@@ -6,7 +6,7 @@ use mathlib.Core.List.{List}
 use Prim.Native.Nat.{ℕ, _+_}
 use lib.Dec.{T, eqb}
 use lib.IntN.{ℤ}
-use Rattle.tags.specs.Tags.{_≤ₜ_, isBelow, lesserOf, lesserOfBoth, isPresent}
+use Rattle.tags.specs.Tags.{isBelow, lesserOfBoth, isPresent}
 use Rattle.rules.specs.Model.{Tag, OptionalTag, NoTag, At}
 use Rattle.rules.specs.Walk.{quiet, isStopped}
 use Rattle.rules.specs.Completion.{frontOf, leastCompleted, finish, completeAll}
@@ -26,12 +26,8 @@ use Rattle.completion.specs.declared.Least.{Least}
 use Rattle.completion.specs.Advance.{Has, Advances, CompletesLeast}
 use Rattle.completion.specs.Changes.{withProbe, isReached, finishedAt, stillAt, unblockedAt}
 use Rattle.state.proofs.Halves.{stopped-is}
-use Rattle.completion.proofs.Cells.{either, paired, neat-finished}
+use Rattle.completion.proofs.Cells.{present-at, paired, neat-finished}
 use Rattle.completion.proofs.Steps.{finish-is, still-stopped, still-missing, to-held, to-unblocked, scan-blocked, scan-free, front-is, blocks-is, answered-is}
-
-pub no-horizon : (m : OptionalTag) (h : Tag) → isAbsent h ≡ true → lesserOfBoth m (optionalOf h) ≡ NoTag
-no-horizon NoTag h e = refl
-no-horizon (At a) h e = rw e refl
 
 module _ (ps ks : List Bool) (os : List ℕ) (ss ns : List ℤ) (ms : List ℕ) (n : ℕ) (k : Completion) (r : Advanced) where
   abbrev blocked : Tag → Bool
@@ -75,12 +71,13 @@ module _ (ps ks : List Bool) (os : List ℕ) (ss ns : List ℤ) (ms : List ℕ) 
     pub answers-stopped : eqb ph 6 ≡ true → r ≡ stillAt h k → Answers
     answers-stopped p e s whole v = rw (e, ← v .completion) (still-stopped s whole h (stopped-by s whole v ∙ p))
 
-    module _ (p : eqb ph 6 ≡ false) (g : Tag) (top : g ≡ cellOf (greatestFrom (λ j. optionalOf (tagIn ss ns ms (32 + j))) 0 n)) where
-      pub answers-missing : lesserOfBoth (optionalOf g) (optionalOf h) ≡ NoTag → r ≡ stillAt h k → Answers
-      answers-missing q e s whole v = rw (e, ← v .completion) (still-missing s whole h (stopped-by s whole v ∙ p) (front-is v g top ∙ q))
+    module _ (p : eqb ph 6 ≡ false) (f : Tag)
+        (front : f ≡ cellOf (lesserOfBoth (greatestFrom (λ j. optionalOf (tagIn ss ns ms (32 + j))) 0 n) (optionalOf h))) where
+      pub answers-missing : isAbsent f ≡ true → r ≡ stillAt h k → Answers
+      answers-missing q e s whole v = rw (e, ← v .completion) (still-missing s whole h (stopped-by s whole v ∙ p) (front-is v f front ∙ rw q refl))
 
-      pub answers-towards : isAbsent g ≡ false → isAbsent h ≡ false → (f : Tag) → f ≡ lesserOf g h → Towards f → Answers
-      answers-towards a b f e t s whole v = t s whole own present (stopped-by s whole v ∙ p) (front-is v g top ∙ rw (a, b, e) refl)
+      pub answers-towards : isAbsent f ≡ false → Towards f → Answers
+      answers-towards q t s whole v = t s whole own q (stopped-by s whole v ∙ p) (front-is v f front ∙ present-at f q)
         where
           own : Has s ps ks os ss ns ms n (s .coordination .phase) (s .«grant_horizon») k
           own = record {
@@ -95,9 +92,6 @@ module _ (ps ks : List Bool) (os : List ℕ) (ss ns : List ℤ) (ms : List ℕ) 
             horizon = refl;
             completion = v .completion;
           }
-
-          present : isAbsent f ≡ false
-          present = rw e (either (λ z. isAbsent z ≡ false) (g ≤ₜ h) g h a b)
 
 -- ---- the least completed tag
 

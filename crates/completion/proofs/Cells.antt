@@ -15,7 +15,7 @@ use Rattle.state.specs.declared.Completion.{Completion}
 -- ---- one cell
 
 -- what both are the chosen one is
-pub either : (P : Tag → Type 0) (x : Bool) (a b : Tag) → P a → P b → P (cond x a b)
+either : (P : Tag → Type 0) (x : Bool) (a b : Tag) → P a → P b → P (cond x a b)
 either P true a b p q = p
 either P false a b p q = q
 

@@ -1,6 +1,6 @@
 -- The completion step of a whole state, branch by branch: under the rules' tests it is the answer that the code makes of the cells (Cells), since a change
 -- of the completion's cells is the rules' change of the state; and the rules' tests are those of the columns. Assumes nothing.
-use mathlib.Core.Path.{_≡_, refl, sym, ap, ap₂, _∙_}
+use mathlib.Core.Path.{_≡_, refl, sym, ap₂, _∙_}
 use mathlib.Core.Bool.{Bool, true, false, cond}
 use mathlib.Core.List.{List, [], _∷_}
 use Prim.Native.Nat.{ℕ, _+_, _^_}
@@ -16,9 +16,9 @@ use Rattle.state.specs.declared.FederateCoordinationState.{FederateCoordination
 use Rattle.state.specs.declared.Completion.{Completion}
 use Rattle.state.specs.Cells.{absent, isAbsent, optionalOf, cellOf, tagIn}
 use Rattle.state.specs.Walk.{allOf, anyOf, greatestFrom}
-use Rattle.state.specs.View.{tagAt, view, represents}
+use Rattle.state.specs.View.{view, represents}
 use Rattle.state.specs.Parts.{withCompletion}
-use Rattle.state.proofs.Kept.{greatest-kept}
+use Rattle.state.proofs.Kept.{optional-kept, both-kept, greatest-kept}
 use Rattle.state.proofs.Rows.{all-rows, any-rows, greatest-rows, each-rows}
 use Rattle.state.proofs.Neat.{NeatCompletion, completion-parts, completion-whole, neat-parts}
 use Rattle.table.specs.declared.Scanned.{Scanned}
@@ -133,13 +133,11 @@ scan-free false false true w e q = (refl, cc)
 scan-free false false false w e q = (refl, refl)
 
 module _ {s : Held} {ps ks : List Bool} {os : List ℕ} {ss ns : List ℤ} {ms : List ℕ} {n ph : ℕ} {h : Tag} {k : Completion} (v : Has s ps ks os ss ns ms n ph h k) where
-  pub front-is : (g : Tag) → g ≡ cellOf (greatestFrom (λ j. optionalOf (tagIn ss ns ms (32 + j))) 0 n)
-      → frontOf (view s) ≡ lesserOfBoth (optionalOf g) (optionalOf h)
-  front-is g e =
-      ap₂ lesserOfBoth (greatest-rows s (λ p. p .completed) ∙ columns ∙ sym (ap optionalOf e)) (ap optionalOf (v .horizon))
-    where
-      columns : greatestFrom (λ j. optionalOf (tagAt s (32 + j))) 0 (s .count) ≡ optionalOf (cellOf (greatestFrom (λ j. optionalOf (tagIn ss ns ms (32 + j))) 0 n))
-      columns = rw (v .seconds, v .nanoseconds, v .microsteps, v .count) (sym (greatest-kept (λ j. tagIn ss ns ms (32 + j)) 0 n))
+  pub front-is : (f : Tag) → f ≡ cellOf (lesserOfBoth (greatestFrom (λ j. optionalOf (tagIn ss ns ms (32 + j))) 0 n) (optionalOf h))
+      → frontOf (view s) ≡ optionalOf f
+  front-is f e =
+      rw (greatest-rows s (λ p. p .completed), v .seconds, v .nanoseconds, v .microsteps, v .count, v .horizon, e)
+      (sym (both-kept _ (optionalOf h) (greatest-kept (λ j. tagIn ss ns ms (32 + j)) 0 n) (optional-kept h)))
 
   pub blocks-is : (f : Tag) → any (blocks f) (view s .participants) ≡ anyOf (λ j. blocksAt ps ss ns ms f j) 0 n
   blocks-is f = any-rows s (blocks f) ∙ rw (v .published, v .seconds, v .nanoseconds, v .microsteps, v .count) refl

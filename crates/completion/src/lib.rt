@@ -316,8 +316,8 @@ pub fn advance_completion<'a>(
     if phase == 6 {
         return still(horizon, completion);
     }
-    let greatest = table::greatest_completed(seconds, nanoseconds, microsteps, count);
-    if state::is_absent(greatest) || state::is_absent(horizon) {
+    let frontier = table::front(seconds, nanoseconds, microsteps, count, horizon);
+    if state::is_absent(frontier) {
         return still(horizon, completion);
     }
     advance_to(
@@ -328,7 +328,7 @@ pub fn advance_completion<'a>(
         nanoseconds,
         microsteps,
         count,
-        tags::lesser(greatest, horizon),
+        frontier,
         completion,
     )
 }

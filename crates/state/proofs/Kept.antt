@@ -3,7 +3,7 @@ use mathlib.Core.Path.{_≡_, refl}
 use mathlib.Core.Bool.{Bool, true, false, cond}
 use Prim.Native.Nat.{ℕ, zero, suc, _+_}
 use lib.Dec.{T}
-use Rattle.tags.specs.Tags.{_≤ₜ_, lesserPresent, greaterPresent}
+use Rattle.tags.specs.Tags.{_≤ₜ_, lesserPresent, greaterPresent, lesserOfBoth}
 use Rattle.rules.specs.Model.{Tag, OptionalTag, NoTag, At}
 use Rattle.rules.proofs.Lists.{no-at}
 use Rattle.state.specs.Cells.{isAbsent, optionalOf, cellOf, isNeat}
@@ -14,7 +14,7 @@ use Rattle.state.proofs.Rows.{neat-cell}
 abbrev pub Kept : OptionalTag → Type 0
 Kept m = optionalOf (cellOf m) ≡ m
 
-optional-kept : (t : Tag) → Kept (optionalOf t)
+pub optional-kept : (t : Tag) → Kept (optionalOf t)
 optional-kept t = go (isAbsent t) refl
   where
     go : (b : Bool) → isAbsent t ≡ b → Kept (cond b NoTag (At t))
@@ -34,6 +34,11 @@ greater-kept : (m n : OptionalTag) → Kept m → Kept n → Kept (greaterPresen
 greater-kept NoTag n p q = q
 greater-kept (At a) NoTag p q = p
 greater-kept (At a) (At b) p q = either-kept (a ≤ₜ b) b a q p
+
+pub both-kept : (m n : OptionalTag) → Kept m → Kept n → Kept (lesserOfBoth m n)
+both-kept NoTag n p q = refl
+both-kept (At a) NoTag p q = refl
+both-kept (At a) (At b) p q = either-kept (a ≤ₜ b) a b p q
 
 pub least-kept : (f : ℕ → Tag) (k n : ℕ) → Kept (leastFrom (λ j. optionalOf (f j)) k n)
 unfolding leastFrom

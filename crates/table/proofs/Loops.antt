@@ -1,6 +1,6 @@
 -- One turn of each loop of this crate, on plain values. Going up from 0 to n, at place i: the answer for all places is that for those from i on.
 -- Going down from n: the cell in hand means the fold of the places from i on. Assumes nothing.
-use mathlib.Core.Path.{_≡_, refl, sym, ap, _∙_}
+use mathlib.Core.Path.{_≡_, refl, sym, ap, _∙_, subst}
 use mathlib.Core.Bool.{Bool, true, false, not, cond, _&&_, _||_, and-assoc, and-true, and-false}
 use mathlib.Core.List.{List, [], _∷_}
 use Prim.Native.Nat.{ℕ, zero, suc, _+_, _-_, _≤_, _<_}
@@ -8,9 +8,11 @@ use native.Mathlib.Nat.{not-suc-le-zero}
 use native.Mathlib.Numerals.{add-one}
 use native.Mathlib.Omega.{arith}
 use borrow.Author.Tests.{not-true, not-false, eq-eqb, ne-eqb}
+use lib.Dec.{T}
 use lib.IntN.{ℤ}
 use lib.ListN.{length, set}
-use Rattle.tags.specs.Tags.{isPresent, lesserOf, greaterOf, lesserPresent, greaterPresent, _≤ₜ_}
+use Rattle.tags.specs.Tags.{_≤ₜ_, _<ₜ_, isPresent, isBelow, lesserOf, greaterOf, lesserPresent, greaterPresent, lesserOfBoth}
+use Rattle.tags.proofs.Order.{≤ₜ-trans, ≤ₜ-total, greater-le-left, lesser-left, lesser-right, greater-comm, greater-assoc}
 use Rattle.rules.specs.Model.{Tag, OptionalTag, NoTag, At}
 use Rattle.state.specs.Cells.{absent, isAbsent, optionalOf, cellOf, tagIn}
 use Rattle.state.specs.Walk.{allOf, anyOf, placeFrom, leastFrom, greatestFrom}
@@ -224,3 +226,81 @@ module _ (f : ℕ → Tag) (n : ℕ) where
         down : (j : ℕ) → j < n → allOf has j (n - j) ≡ false → allOf has 0 n ≡ false
         down zero h p = start (allOf has) n ∙ p
         down (suc j) h p = down j (omega arith) (more (allOf has) n j (omega arith) ∙ rw (add-one, p) (and-false (has j)))
+
+-- ---- up: the greatest tag under the horizon
+
+greater-swap : (a b c : OptionalTag) → greaterPresent (greaterPresent a b) c ≡ greaterPresent b (greaterPresent a c)
+greater-swap NoTag b c = refl
+greater-swap (At a) NoTag c = refl
+greater-swap (At a) (At b) NoTag = ap At (greater-comm a b)
+greater-swap (At a) (At b) (At c) = ap At (ap (λ t. greaterOf t c) (greater-comm a b) ∙ greater-assoc b a c)
+
+module _ (f : ℕ → Tag) (n : ℕ) (h : Tag) where
+  abbrev upper : ℕ → ℕ → OptionalTag
+  upper = greatestFrom (λ j. optionalOf (f j))
+
+  pub front-missing : isAbsent h ≡ true → absent ≡ cellOf (lesserOfBoth (upper 0 n) (optionalOf h))
+  front-missing e = rw e (go (upper 0 n))
+    where
+      go : (m : OptionalTag) → absent ≡ cellOf (lesserOfBoth m NoTag)
+      go NoTag = refl
+      go (At a) = refl
+
+  -- acc is the greatest of the places before i, none of which has reached h
+  pub record Ahead (i : ℕ) (acc : Tag) : Type 0 where
+    pub most : OptionalTag
+    pub means : Means acc most
+    pub below : T (isBelow most h)
+    pub rest : lesserOfBoth (upper 0 n) (At h) ≡ lesserOfBoth (greaterPresent most (upper i (n - i))) (At h)
+
+  pub front-start : Ahead 0 absent
+  front-start = record { most = NoTag; means = missing; below = tt; rest = ap (λ m. lesserOfBoth m (At h)) (start upper n) }
+
+  below-both : (m k : OptionalTag) → T (isBelow m h) → T (isBelow k h) → T (isBelow (greaterPresent m k) h)
+  below-both NoTag k p q = q
+  below-both (At a) NoTag p q = p
+  below-both (At a) (At b) p q = go (a ≤ₜ b)
+    where
+      go : (x : Bool) → T (cond x b a <ₜ h)
+      go true = q
+      go false = p
+
+  below-is : (m : OptionalTag) → T (isBelow m h) → lesserOfBoth (greaterPresent m NoTag) (At h) ≡ m
+  below-is NoTag p = refl
+  below-is (At a) p = ap At (lesser-left a h (≤ₜ-total h a p))
+
+  reached-is : (a : Tag) (m : OptionalTag) → T (h ≤ₜ a) → lesserOfBoth (greaterPresent (At a) m) (At h) ≡ At h
+  reached-is a NoTag k = ap At (lesser-right a h k)
+  reached-is a (At b) k = ap At (lesser-right (greaterOf a b) h (≤ₜ-trans h a (greaterOf a b) k (greater-le-left a b)))
+
+  settled : (c m k : OptionalTag) → isBelow c h ≡ false → lesserOfBoth (greaterPresent (greaterPresent c m) k) (At h) ≡ At h
+  settled NoTag m k e = absurd (subst T e tt)
+  settled (At a) m k e = go m
+    where
+      past : T (h ≤ₜ a)
+      past = subst T (sym (not-false (h ≤ₜ a) e)) tt
+
+      go : (m : OptionalTag) → lesserOfBoth (greaterPresent (greaterPresent (At a) m) k) (At h) ≡ At h
+      go NoTag = reached-is a k past
+      go (At b) = reached-is (greaterOf a b) k (≤ₜ-trans h a (greaterOf a b) past (greater-le-left a b))
+
+  module _ (i : ℕ) (acc : Tag) (p : Ahead i acc) where
+    pub front-done : n ≤ i → isAbsent h ≡ false → acc ≡ cellOf (lesserOfBoth (upper 0 n) (optionalOf h))
+    front-done k e = rw (e, p .rest, done upper n i k, greatest .none, below-is (p .most) (p .below)) (means-cell (p .means))
+
+    module _ (c : Tag) (x : Bool) (k : i < n) (e : c ≡ f i) (q : x ≡ isBelow (optionalOf c) h) where
+      turned : lesserOfBoth (upper 0 n) (At h) ≡ lesserOfBoth (greaterPresent (greaterPresent (optionalOf c) (p .most)) (upper (i + 1) (n - (i + 1)))) (At h)
+      turned =
+          p .rest ∙ ap (λ m. lesserOfBoth (greaterPresent (p .most) m) (At h)) (more upper n i k ∙ rw (greatest .next, ← e) refl)
+          ∙ ap (λ m. lesserOfBoth m (At h)) (sym (greater-swap (optionalOf c) (p .most) (upper (i + 1) (n - (i + 1)))))
+
+      pub front-reached : not x ≡ true → isAbsent h ≡ false → h ≡ cellOf (lesserOfBoth (upper 0 n) (optionalOf h))
+      front-reached t a = rw (a, turned, settled (optionalOf c) (p .most) (upper (i + 1) (n - (i + 1))) (sym q ∙ not-true x t)) refl
+
+      pub front-turn : not x ≡ false → (r : Tag) → r ≡ cond (isAbsent c) acc (cond (isAbsent acc) c (greaterOf c acc)) → Ahead (i + 1) r
+      front-turn t r d = record {
+        most = greaterPresent (optionalOf c) (p .most);
+        means = rw d (means-join greatest c acc (p .most) (p .means));
+        below = below-both (optionalOf c) (p .most) (subst T (sym (not-false x t) ∙ q) tt) (p .below);
+        rest = turned;
+      }

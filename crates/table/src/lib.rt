@@ -5,7 +5,7 @@ ghost use mathlib.Core.Bool.{false, cond, not, _||_};
 ghost use Prim.Native.Nat.{_+_, _≤_, _<_};
 ghost use lib.Dec.{eqb};
 ghost use lib.ListN.{getD};
-ghost use Rattle.tags.specs.Tags.{isPresent, lesserOf, greaterOf, isBelow, atOrBelow};
+ghost use Rattle.tags.specs.Tags.{isPresent, lesserOf, greaterOf, lesserOfBoth, isBelow, atOrBelow};
 ghost use Rattle.rules.specs.Model.{NoTag};
 ghost use Rattle.rules.specs.Walk.{isNumber};
 ghost use Rattle.state.specs.Cells.{isAbsent, optionalOf, cellOf, tagIn, numberIf};
@@ -157,26 +157,6 @@ pub fn least_completed<'a>(
     least
 }
 
-// The greatest present completed tag of the first `count` participants.
-pub fn greatest_completed<'a>(
-    seconds: &'a [i64; 96],
-    nanoseconds: &'a [i32; 96],
-    microsteps: &'a [u64; 96],
-    count: usize,
-) -> Tag
-    requires { ⌜ count ≤ 32 ⌝ }
-    ensures { λ r. ⌜ r ≡ cellOf (greatestFrom (λ j. optionalOf (tagIn (now (seconds .entry)) (now (nanoseconds .entry)) (now (microsteps .entry)) (32 + j))) 0 count) ⌝ }
-{
-    let mut greatest = ABSENT;
-    let mut i = count;
-    while 0 < i {
-        i -= 1;
-        let completed = tag_at(seconds, nanoseconds, microsteps, COMPLETED + i);
-        greatest = greater_cell(completed, greatest);
-    }
-    greatest
-}
-
 // The cells of the participant at a place that a scheduler message can change.
 pub fn row_at<'a>(
     published: &'a [bool; 32],
@@ -219,6 +199,34 @@ pub fn lags(completed: Tag, frontier: Tag) -> bool
         return true;
     }
     !tags::at_or_below(frontier, completed)
+}
+
+// The lesser of the horizon and the greatest completed tag of the first `count` participants, absent where either is.
+pub fn front<'a>(
+    seconds: &'a [i64; 96],
+    nanoseconds: &'a [i32; 96],
+    microsteps: &'a [u64; 96],
+    count: usize,
+    horizon: Tag,
+) -> Tag
+    requires { ⌜ count ≤ 32 ⌝ }
+    ensures { λ r. ⌜ r ≡ cellOf (lesserOfBoth (greatestFrom (λ j. optionalOf (tagIn (now (seconds .entry)) (now (nanoseconds .entry)) (now (microsteps .entry)) (32 + j))) 0 count) (optionalOf horizon)) ⌝ }
+{
+    if state::is_absent(horizon) {
+        return ABSENT;
+    }
+    let mut greatest = ABSENT;
+    let mut i: usize = 0;
+    while i < count {
+        let completed = tag_at(seconds, nanoseconds, microsteps, COMPLETED + i);
+        // One that has reached the horizon settles it.
+        if !lags(completed, horizon) {
+            return horizon;
+        }
+        greatest = greater_cell(completed, greatest);
+        i += 1;
+    }
+    greatest
 }
 
 fn holds_back(published: bool, candidate: Tag, frontier: Tag) -> bool

@@ -145,6 +145,30 @@ greater-le-left a b = chosen (λ t. T (a ≤ₜ t)) a b b a (λ h. h) (λ h. ≤
 pub greater-le-right : (a b : Tag) → T (b ≤ₜ greaterOf a b)
 greater-le-right a b = chosen (λ t. T (b ≤ₜ t)) a b b a (λ h. ≤ₜ-refl b) (λ h. h)
 
+-- ---- the lesser and the greater of two in order, and of several in any order
+pub lesser-left : (a b : Tag) → T (a ≤ₜ b) → lesserOf a b ≡ a
+lesser-left a b h = chosen (λ t. t ≡ a) a b a b (λ k. refl) (λ k. ≤ₜ-anti b a k h)
+
+pub lesser-right : (a b : Tag) → T (b ≤ₜ a) → lesserOf a b ≡ b
+lesser-right a b h = chosen (λ t. t ≡ b) a b a b (λ k. ≤ₜ-anti a b k h) (λ k. refl)
+
+greater-left : (a b : Tag) → T (b ≤ₜ a) → greaterOf a b ≡ a
+greater-left a b h = chosen (λ t. t ≡ a) a b b a (λ k. ≤ₜ-anti b a h k) (λ k. refl)
+
+greater-right : (a b : Tag) → T (a ≤ₜ b) → greaterOf a b ≡ b
+greater-right a b h = chosen (λ t. t ≡ b) a b b a (λ k. refl) (λ k. ≤ₜ-anti a b h k)
+
+pub greater-comm : (a b : Tag) → greaterOf a b ≡ greaterOf b a
+greater-comm a b = chosen (λ t. t ≡ greaterOf b a) a b b a (λ h. sym (greater-left b a h)) (λ h. sym (greater-right b a h))
+
+pub greater-assoc : (a b c : Tag) → greaterOf (greaterOf a b) c ≡ greaterOf a (greaterOf b c)
+greater-assoc a b c =
+    chosen (λ t. greaterOf t c ≡ greaterOf a (greaterOf b c)) a b b a
+    (λ h. sym (greater-right a (greaterOf b c) (≤ₜ-trans a b (greaterOf b c) h (greater-le-left b c))))
+    (λ h. chosen (λ t. greaterOf a c ≡ greaterOf a t) b c c b
+    (λ k. refl)
+    (λ k. greater-left a c (≤ₜ-trans c b a k h) ∙ sym (greater-left a b h)))
+
 -- ---- the ends: NEVER and FOREVER among the proper tags whose numbers fit
 not-above : (a b : ℤ) → T (leZ a b) → T (not (ltZ b a))
 not-above (pos a) (pos b) h = le→nltb b a (leb→le a b h)
