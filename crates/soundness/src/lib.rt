@@ -65,6 +65,32 @@ fn is_cell(t: Tag) -> bool
     tags::is_proper_time(t.seconds, t.nanoseconds)
 }
 
+// The mark is asked for first, since most enclaves have begun nothing.
+fn is_started_cell(t: Tag) -> bool
+    ensures { λ r. ⌜ r ≡ isCell t ⌝ }
+{
+    if is_mark(t) {
+        return true;
+    }
+    tags::is_proper_time(t.seconds, t.nanoseconds)
+}
+
+fn tag_at<'a>(
+    seconds: &'a [i64; 96],
+    nanoseconds: &'a [i32; 96],
+    microsteps: &'a [u64; 96],
+    k: usize,
+) -> Tag
+    requires { ⌜ k < 96 ⌝ }
+    ensures { λ r. ⌜ r ≡ tagIn (now (seconds .entry)) (now (nanoseconds .entry)) (now (microsteps .entry)) k ⌝ }
+{
+    Tag {
+        seconds: seconds[k],
+        nanoseconds: nanoseconds[k],
+        microstep: microsteps[k],
+    }
+}
+
 fn cell_at<'a>(
     seconds: &'a [i64; 96],
     nanoseconds: &'a [i32; 96],
@@ -74,11 +100,7 @@ fn cell_at<'a>(
     requires { ⌜ k < 96 ⌝ }
     ensures { λ r. ⌜ r ≡ isCell (tagIn (now (seconds .entry)) (now (nanoseconds .entry)) (now (microsteps .entry)) k) ⌝ }
 {
-    let t = Tag {
-        seconds: seconds[k],
-        nanoseconds: nanoseconds[k],
-        microstep: microsteps[k],
-    };
+    let t = tag_at(seconds, nanoseconds, microsteps, k);
     is_cell(t)
 }
 
@@ -106,7 +128,8 @@ fn place_is_sound<'a>(
     if !cell_at(seconds, nanoseconds, microsteps, COMPLETED + i) {
         return false;
     }
-    cell_at(seconds, nanoseconds, microsteps, STARTED + i)
+    let started = tag_at(seconds, nanoseconds, microsteps, STARTED + i);
+    is_started_cell(started)
 }
 
 // The places are walked from the last, so that one test bounds an index and has it below the next.

@@ -54,23 +54,26 @@ returns-4 c =
     (and-not-yes _ (b .before .cell-at .ensures) (b .if3 .left)
     (and-not-no _ (c .before .cell-at2 .ensures) (c .if4 .taken))))
 
-add-cell-at-2 : tie.Need-add-cell-at-2
-add-cell-at-2 c = search needs
+add-tag-at : tie.Need-add-tag-at
+add-tag-at c = search needs
 
-cell-at-requires-3 : tie.Need-cell-at-requires-3
-cell-at-requires-3 c κs = search needs
+tag-at-requires : tie.Need-tag-at-requires
+tag-at-requires c κs = search needs
+
+is-started-cell-requires : tie.Need-is-started-cell-requires
+is-started-cell-requires c κs = search needs
 
 -- by the started tag
 returns-5 : tie.Need-returns-5
 returns-5 c =
-    let d = c .before in
+    let d = c .before .before in
     let b = d .before .before in
     let a = b .before .before in
     le-yes _ (a .before .before .before .before .if1 .left)
     (and-not-yes _ (a .before .zero-unless .ensures) (a .if2 .left)
     (and-not-yes _ (b .before .cell-at .ensures) (b .if3 .left)
     (and-not-yes _ (d .before .cell-at2 .ensures) (d .if4 .left)
-    (c .cell-at3 .ensures))))
+    (rw (c .before .tag-at .ensures) at (c .is-started-cell .ensures)))))
 
 pub place-is-sound-spec : {M : Type 1} → statement M
 place-is-sound-spec =
@@ -88,6 +91,7 @@ place-is-sound-spec =
     add-cell-at
     cell-at-requires-2
     returns-4
-    add-cell-at-2
-    cell-at-requires-3
+    add-tag-at
+    tag-at-requires
+    is-started-cell-requires
     returns-5)
