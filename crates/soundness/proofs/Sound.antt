@@ -21,8 +21,8 @@ use Rattle.state.specs.Walk.{tab, allOf}
 use Rattle.state.specs.Cells.{absent, isAbsent, optionalOf, isNeat, isCell, isZeroUnless, publicationIf, inputsOf, storedOf}
 use Rattle.state.specs.View.{tagAt, rowAt, rowsOf, view, neatAt, neatCoordination, neatCompletion, neatGate, represents}
 use Rattle.state.proofs.Rows.{all-rows, all-same, length-rows, cell-split}
-use Rattle.soundness.specs.Lent.{Lent}
-use Rattle.soundness.specs.Sound.{rises, soundAt, soundPublication, soundCoordination, soundInputs, soundCompletion, soundAcquisition, soundGate, soundParts, soundRest, soundPlaces}
+use Rattle.soundness.specs.Lent.{Lent, LentColumns}
+use Rattle.soundness.specs.Sound.{rises, soundAt, soundPublication, soundFlags, soundCoordination, soundInputs, soundCompletion, soundAcquisition, soundGate, soundParts, soundRest, soundSmall, soundPlaces}
 use Rattle.soundness.proofs.Cells.{Told, mark, hidden, proper, improper, told}
 
 -- ---- conjunctions in another order: `simp sorted`
@@ -184,20 +184,18 @@ module _ (s : Held) where
 
 -- ---- the whole, in the order of the code
 
-abbrev pub soundOf : List ℕ → List ℕ → List Bool → List ℕ → List ℤ → List ℤ → List ℕ → ℕ → Coordination → Completion → Gate → Tag → Bool → ℕ → ℕ → Bool
-soundOf es os bs cs ss ns ms n c k g h f e l =
-    (ltb 0 n && leb n 32) && (soundParts c k g && (soundRest h f e l && soundPlaces es os bs cs ss ns ms n))
+abbrev pub soundOf : Bool → List ℕ → List ℕ → List Bool → List ℕ → List ℤ → List ℤ → List ℕ → ℕ → Bool
+soundOf small es os bs cs ss ns ms n = (ltb 0 n && leb n 32) && (small && soundPlaces es os bs cs ss ns ms n)
 
 -- at most 32; coordination, completion, gate and rest with their tags; the indices ascend and are low, the places are neat and their tags proper
 ordered : (m c c₁ k k₁ k₂ k₃ g g₁ g₂ g₃ l h₁ h f a i p q : Bool)
-    → (m && (((c && c₁) && ((k && k₁ && k₂ && k₃) && (g && g₁ && g₂ && g₃))) && ((l && ((h₁ && h) && f)) && ((a && i) && (p && q))))) ≡
+    → (m && ((((c && c₁) && ((k && k₁ && k₂ && k₃) && (g && g₁ && g₂ && g₃))) && (l && ((h₁ && h) && f))) && ((a && i) && (p && q)))) ≡
     ((p && c && k && g && h && f && l) && (m && a && ((i && q) && g₂) && h₁ && k₁ && k₂ && g₁ && c₁ && k₃ && g₃))
 ordered m c c₁ k k₁ k₂ k₃ g g₁ g₂ g₃ l h₁ h f a i p q = simp sorted
 
 abbrev soundHeld : Held → Bool
 soundHeld s =
-    soundOf (s .enclaves) (s .observation) (s .acknowledged) (s .«completion_observed») (s .seconds) (s .nanoseconds) (s .microsteps) (s .count)
-    (s .coordination) (s .completion) (s .gate) (s .«grant_horizon») (s .failed) (s .«first_failure») (s .lifecycle)
+    soundOf (soundSmall s) (s .enclaves) (s .observation) (s .acknowledged) (s .«completion_observed») (s .seconds) (s .nanoseconds) (s .microsteps) (s .count)
 
 sound-held : (s : Held) → soundHeld s ≡ (represents s && isSound (view s))
 unfolding represents isSound
@@ -218,9 +216,8 @@ sound-held s = go (ltb 0 (s .count)) refl
         (leb (s .lifecycle) 2) (proper-if h) (isNeat h) (isZeroUnless (s .failed) (s .«first_failure»)) (ascending (rowsOf s)) (allOf (low s) 0 (s .count))
         (allOf (neatAt s) 0 (s .count)) (allOf (place-tags s) 0 (s .count)))
 
-pub sound-of : {s : Held} {es os : List ℕ} {bs : List Bool} {cs : List ℕ} {ss ns : List ℤ} {ms : List ℕ} {n : ℕ} {c : Coordination} {k : Completion} {g : Gate}
-    {h : Tag} {f : Bool} {e l : ℕ}
-    → Lent s es os bs cs ss ns ms n c k g h f e l → soundOf es os bs cs ss ns ms n c k g h f e l ≡ (represents s && isSound (view s))
+pub sound-of : {s : Held} {es os : List ℕ} {bs : List Bool} {cs : List ℕ} {ss ns : List ℤ} {ms : List ℕ} {n : ℕ}
+    → LentColumns s es os bs cs ss ns ms n → soundOf (soundSmall s) es os bs cs ss ns ms n ≡ (represents s && isSound (view s))
 sound-of {s} p =
     rw (
       ← p .enclaves,
@@ -231,12 +228,44 @@ sound-of {s} p =
       ← p .nanoseconds,
       ← p .microsteps,
       ← p .count,
-      ← p .coordination,
-      ← p .completion,
-      ← p .gate,
-      ← p .horizon,
-      ← p .failed,
-      ← p .failure,
-      ← p .lifecycle,
     )
     (sound-held s)
+
+-- ---- the small parts' tests, as callers join them
+
+-- by part
+pub small-by : {s : Held} {es os : List ℕ} {bs : List Bool} {cs : List ℕ} {ss ns : List ℤ} {ms : List ℕ} {n : ℕ} {c : Coordination} {k : Completion} {g : Gate}
+    {h : Tag} {f : Bool} {e l : ℕ} {a b d r x : Bool}
+    → Lent s es os bs cs ss ns ms n c k g h f e l → a ≡ soundCoordination c → b ≡ soundCompletion k → d ≡ soundGate g → r ≡ soundRest h f e l
+    → x ≡ (a && b && d && r) → x ≡ soundSmall s
+small-by p t u v w q =
+    rw (q, t, u, v, w, ← p .coordination, ← p .completion, ← p .gate, ← p .horizon, ← p .failed, ← p .failure, ← p .lifecycle) (simp and-assoc)
+
+-- by leaf
+module _ (c : Coordination) (k : Completion) (g : Gate) (h : Tag) (f : Bool) (e l : ℕ) where
+  pub small-by-leaves : {flags publication frontiers inputs horizons acquisition rest x y : Bool}
+      → flags ≡ soundFlags (c .phase) (c .authorized) (c .«idle_authorization»)
+      → publication ≡ soundPublication (c .pending) (c .«pending_revision») (c .«pending_next_event») (c .«pending_grant_horizon»)
+      → frontiers ≡ (isCell (k .«completed_frontier») && isCell (k .«completion_probe»))
+      → inputs ≡ soundInputs (k .«first_input») (k .«last_input»)
+      → horizons ≡ (isCell (g .«input_horizon») && isCell (g .granted))
+      → acquisition ≡ soundAcquisition (g .«stored_revision») (g .«stored_granted»)
+      → rest ≡ soundRest h f e l
+      → x ≡ (flags && publication && frontiers && inputs) → y ≡ (x && horizons && acquisition && rest)
+      → y ≡ (soundParts c k g && soundRest h f e l)
+  small-by-leaves a b d i j q r p z = rw (z, p, a, b, d, i, j, q, r) (simp and-assoc)
+
+-- the columns of a state that is lent
+pub columns-of : {s : Held} {es os : List ℕ} {bs : List Bool} {cs : List ℕ} {ss ns : List ℤ} {ms : List ℕ} {n : ℕ} {c : Coordination} {k : Completion} {g : Gate}
+    {h : Tag} {f : Bool} {e l : ℕ}
+    → Lent s es os bs cs ss ns ms n c k g h f e l → LentColumns s es os bs cs ss ns ms n
+columns-of p = record {
+  enclaves = p .enclaves;
+  observation = p .observation;
+  acknowledged = p .acknowledged;
+  observed = p .observed;
+  seconds = p .seconds;
+  nanoseconds = p .nanoseconds;
+  microsteps = p .microsteps;
+  count = p .count;
+}

@@ -27,3 +27,14 @@ pub record Lent (s : Held) (es os : List ℕ) (bs : List Bool) (cs : List ℕ) (
   pub failed : s .failed ≡ f
   pub failure : s .«first_failure» ≡ e
   pub lifecycle : s .lifecycle ≡ l
+
+-- its columns alone, and how many participants it has
+pub record LentColumns (s : Held) (es os : List ℕ) (bs : List Bool) (cs : List ℕ) (ss ns : List ℤ) (ms : List ℕ) (n : ℕ) : Type 0 where
+  pub enclaves : s .enclaves ≡ es
+  pub observation : s .observation ≡ os
+  pub acknowledged : s .acknowledged ≡ bs
+  pub observed : s .«completion_observed» ≡ cs
+  pub seconds : s .seconds ≡ ss
+  pub nanoseconds : s .nanoseconds ≡ ns
+  pub microsteps : s .microsteps ≡ ms
+  pub count : s .count ≡ n

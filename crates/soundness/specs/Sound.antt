@@ -8,6 +8,7 @@ use lib.IntN.{ℤ}
 use lib.ListN.{getD}
 use Rattle.tags.specs.Tags.{_≡ₜ_, isProper}
 use Rattle.rules.specs.Model.{Tag}
+use Rattle.state.specs.declared.FederateCoordinationState.{FederateCoordinationState as Held}
 use Rattle.state.specs.declared.Coordination.{Coordination}
 use Rattle.state.specs.declared.Completion.{Completion}
 use Rattle.state.specs.declared.Gate.{Gate}
@@ -19,11 +20,13 @@ use Rattle.state.specs.Cells.{absent, isCell, isZeroUnless, tagIn}
 abbrev pub soundPublication : Bool → ℕ → Tag → Tag → Bool
 soundPublication b r n h = cond b (isCell n && isCell h) (eqb r 0 && (n ≡ₜ absent && h ≡ₜ absent))
 
+abbrev pub soundFlags : ℕ → Bool → ℕ → Bool
+soundFlags phase authorized idle = leb phase 6 && isZeroUnless authorized idle
+
 abbrev pub soundCoordination : Coordination → Bool
 soundCoordination c =
-    leb (c .phase) 6 &&
-    (isZeroUnless (c .authorized) (c .«idle_authorization») &&
-    soundPublication (c .pending) (c .«pending_revision») (c .«pending_next_event») (c .«pending_grant_horizon»))
+    soundFlags (c .phase) (c .authorized) (c .«idle_authorization») &&
+    soundPublication (c .pending) (c .«pending_revision») (c .«pending_next_event») (c .«pending_grant_horizon»)
 
 abbrev pub soundInputs : Tag → Tag → Bool
 soundInputs first last = cond (first ≡ₜ absent) (last ≡ₜ absent) (isProper first && isProper last)
@@ -42,6 +45,11 @@ soundParts c k g = soundCoordination c && (soundCompletion k && soundGate g)
 
 abbrev pub soundRest : Tag → Bool → ℕ → ℕ → Bool
 soundRest h f e l = leb l 2 && (isCell h && isZeroUnless f e)
+
+-- all of them
+abbrev pub soundSmall : Held → Bool
+soundSmall s =
+    soundParts (s .coordination) (s .completion) (s .gate) && soundRest (s .«grant_horizon») (s .failed) (s .«first_failure») (s .lifecycle)
 
 -- ---- the participants
 

@@ -10,9 +10,9 @@ ghost use Rattle.rules.specs.Calls.{isSound};
 ghost use Rattle.state.specs.Cells.{absent, isCell, isZeroUnless, tagIn};
 ghost use Rattle.state.specs.View.{view, represents};
 ghost use Rattle.state.specs.declared.FederateCoordinationState.{FederateCoordinationState as Held};
-ghost use Rattle.soundness.specs.Lent.{Lent};
-ghost use Rattle.soundness.specs.Sound.{soundPublication, soundCoordination, soundInputs, soundCompletion, soundAcquisition, soundGate};
-ghost use Rattle.soundness.specs.Sound.{soundParts, soundRest, soundAt, soundPlaces};
+ghost use Rattle.soundness.specs.Lent.{Lent, LentColumns};
+ghost use Rattle.soundness.specs.Sound.{soundPublication, soundFlags, soundCoordination, soundInputs, soundCompletion, soundAcquisition, soundGate};
+ghost use Rattle.soundness.specs.Sound.{soundRest, soundSmall, soundAt, soundPlaces};
 use state::ABSENT;
 use state::COMPLETED;
 use state::Completion;
@@ -170,7 +170,8 @@ fn places_are_sound<'a>(
     true
 }
 
-fn are_cells(a: Tag, b: Tag) -> bool
+// Whether each is a proper tag or the mark of an absent one.
+pub fn are_cells(a: Tag, b: Tag) -> bool
     ensures { λ r. ⌜ r ≡ (isCell a && isCell b) ⌝ }
 {
     if is_cell(a) {
@@ -188,7 +189,13 @@ fn are_marks(a: Tag, b: Tag) -> bool
     false
 }
 
-fn publication_is_sound(pending: bool, revision: u64, next_event: Tag, grant_horizon: Tag) -> bool
+// Whether a pending publication holds two cells, and an absent one nothing.
+pub fn publication_is_sound(
+    pending: bool,
+    revision: u64,
+    next_event: Tag,
+    grant_horizon: Tag,
+) -> bool
     ensures { λ r. ⌜ r ≡ soundPublication pending revision «next_event» «grant_horizon» ⌝ }
 {
     if pending {
@@ -200,13 +207,24 @@ fn publication_is_sound(pending: bool, revision: u64, next_event: Tag, grant_hor
     false
 }
 
+// Whether the phase is one of the seven, and an absent authorization 0.
+pub fn flags_are_sound(phase: u8, authorized: bool, idle_authorization: u64) -> bool
+    ensures { λ r. ⌜ r ≡ soundFlags phase authorized «idle_authorization» ⌝ }
+{
+    if 6 < phase {
+        return false;
+    }
+    zero_unless(authorized, idle_authorization)
+}
+
 fn coordination_is_sound(coordination: Coordination) -> bool
     ensures { λ r. ⌜ r ≡ soundCoordination coordination ⌝ }
 {
-    if 6 < coordination.phase {
-        return false;
-    }
-    if !zero_unless(coordination.authorized, coordination.idle_authorization) {
+    if !flags_are_sound(
+        coordination.phase,
+        coordination.authorized,
+        coordination.idle_authorization,
+    ) {
         return false;
     }
     let next_event = coordination.pending_next_event;
@@ -220,7 +238,7 @@ fn coordination_is_sound(coordination: Coordination) -> bool
 }
 
 // Both inputs are there or neither.
-fn inputs_are_sound(first: Tag, last: Tag) -> bool
+pub fn inputs_are_sound(first: Tag, last: Tag) -> bool
     ensures { λ r. ⌜ r ≡ soundInputs first last ⌝ }
 {
     if is_mark(first) {
@@ -245,7 +263,8 @@ fn completion_is_sound(completion: Completion) -> bool
     false
 }
 
-fn acquisition_is_sound(revision: u64, granted: Tag) -> bool
+// Whether the stored acquisition has a proper tag, or the mark and revision 0.
+pub fn acquisition_is_sound(revision: u64, granted: Tag) -> bool
     ensures { λ r. ⌜ r ≡ soundAcquisition revision granted ⌝ }
 {
     if is_mark(granted) {
@@ -266,7 +285,8 @@ fn gate_is_sound(gate: Gate) -> bool
     false
 }
 
-fn rest_is_sound(grant_horizon: Tag, failed: bool, first_failure: u32, lifecycle: u8) -> bool
+// Whether the lifecycle is one of the three, the grant horizon a cell, and an absent failure 0.
+pub fn rest_is_sound(grant_horizon: Tag, failed: bool, first_failure: u32, lifecycle: u8) -> bool
     ensures { λ r. ⌜ r ≡ soundRest «grant_horizon» failed «first_failure» lifecycle ⌝ }
 {
     if 2 < lifecycle {
@@ -278,16 +298,50 @@ fn rest_is_sound(grant_horizon: Tag, failed: bool, first_failure: u32, lifecycle
     false
 }
 
-fn parts_are_sound(coordination: Coordination, completion: Completion, gate: Gate) -> bool
-    ensures { λ r. ⌜ r ≡ soundParts coordination completion gate ⌝ }
+// Whether all four hold.
+pub fn all_hold(a: bool, b: bool, c: bool, d: bool) -> bool
+    ensures { λ r. ⌜ r ≡ (a && b && c && d) ⌝ }
 {
-    if !coordination_is_sound(coordination) {
+    if a {
+        if b {
+            if c {
+                return d;
+            }
+        }
+    }
+    false
+}
+
+// `is_sound` for a caller that tests the small parts where it has them at hand: `small` says whether they are sound.
+pub fn is_sound_with<'a>(
+    enclaves: &'a [u32; 32],
+    observation: &'a [u8; 32],
+    acknowledged: &'a [bool; 32],
+    completion_observed: &'a [u64; 32],
+    seconds: &'a [i64; 96],
+    nanoseconds: &'a [i32; 96],
+    microsteps: &'a [u64; 96],
+    count: usize,
+    small: bool,
+) -> bool
+    ensures { λ r. ⌜ ((s : Held) → LentColumns s (now (enclaves .entry)) (now (observation .entry)) (now (acknowledged .entry)) (now («completion_observed» .entry)) (now (seconds .entry)) (now (nanoseconds .entry)) (now (microsteps .entry)) count → small ≡ soundSmall s → r ≡ (represents s && isSound (view s))) ⌝ }
+{
+    if !count_is_sound(count) {
         return false;
     }
-    if !completion_is_sound(completion) {
+    if !small {
         return false;
     }
-    gate_is_sound(gate)
+    places_are_sound(
+        enclaves,
+        observation,
+        acknowledged,
+        completion_observed,
+        seconds,
+        nanoseconds,
+        microsteps,
+        count,
+    )
 }
 
 // Whether these are the pieces of a state that holds one of document 01 and is sound.
@@ -310,16 +364,13 @@ pub fn is_sound<'a>(
 ) -> bool
     ensures { λ r. ⌜ ((s : Held) → Lent s (now (enclaves .entry)) (now (observation .entry)) (now (acknowledged .entry)) (now («completion_observed» .entry)) (now (seconds .entry)) (now (nanoseconds .entry)) (now (microsteps .entry)) count coordination completion gate «grant_horizon» failed «first_failure» lifecycle → r ≡ (represents s && isSound (view s))) ⌝ }
 {
-    if !count_is_sound(count) {
-        return false;
-    }
-    if !parts_are_sound(coordination, completion, gate) {
-        return false;
-    }
-    if !rest_is_sound(grant_horizon, failed, first_failure, lifecycle) {
-        return false;
-    }
-    places_are_sound(
+    let small = all_hold(
+        coordination_is_sound(coordination),
+        completion_is_sound(completion),
+        gate_is_sound(gate),
+        rest_is_sound(grant_horizon, failed, first_failure, lifecycle),
+    );
+    is_sound_with(
         enclaves,
         observation,
         acknowledged,
@@ -328,5 +379,6 @@ pub fn is_sound<'a>(
         nanoseconds,
         microsteps,
         count,
+        small,
     )
 }
