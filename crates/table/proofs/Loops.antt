@@ -1,7 +1,7 @@
 -- One turn of each loop of this crate, on plain values. Going up from 0 to n, at place i: the answer for all places is that for those from i on.
 -- Going down from n: the cell in hand means the fold of the places from i on. Assumes nothing.
 use mathlib.Core.Path.{_≡_, refl, sym, ap, _∙_, subst}
-use mathlib.Core.Bool.{Bool, true, false, not, cond, _&&_, _||_, and-assoc, and-true, and-false}
+use mathlib.Core.Bool.{Bool, true, false, not, cond, _&&_, _||_, and-false, or-true}
 use mathlib.Core.List.{List, [], _∷_}
 use Prim.Native.Nat.{ℕ, zero, suc, _+_, _-_, _≤_, _<_}
 use native.Mathlib.Nat.{not-suc-le-zero}
@@ -72,44 +72,6 @@ module _ (f : ℕ → Bool) (n i z : ℕ) where
 pub ruleset walks = (all-start, all-turn, all-left, all-done)
 
 pub ruleset seeks = (place-start, place-turn, place-found, place-done, eq-eqb, ne-eqb)
-
--- ---- up: the scan
-
-abbrev pub outcome : Bool → Bool → Scanned
-outcome b a = cond b Blocked (cond a Answered Waiting)
-
--- whether a row blocks and whether it has answered, by what the code tests of it: it lags, it holds back, it has observed
-module _ {l lags : Bool} (holds observed : Bool) (e : l ≡ lags) where
-  pub row-ahead : l ≡ false → ((lags && holds) ≡ false) × ((not lags || observed) ≡ true)
-  row-ahead t = rw (← e, t) (refl, refl)
-
-  pub row-behind : {h o : Bool} (s : Bool) → l ≡ true → h ≡ holds → h ≡ false → o ≡ observed → o ≡ s
-      → ((lags && holds) ≡ false) × ((not lags || observed) ≡ s)
-  row-behind s t f u g v = rw (← e, t, ← f, u, ← g, v) (refl, refl)
-
-pub row-blocks : {l lags h holds : Bool} → l ≡ lags → l ≡ true → h ≡ holds → h ≡ true → (lags && holds) ≡ true
-row-blocks e t f u = rw (← e, t, ← f, u) refl
-
-pub scan-start : (b a : ℕ → Bool) (n : ℕ) → outcome (anyOf b 0 n) (allOf a 0 n) ≡ outcome (anyOf b 0 (n - 0)) (allOf a 0 (n - 0))
-scan-start b a = start (λ k m. outcome (anyOf b k m) (allOf a k m))
-
--- w: all places before i have answered
-module _ (b a : ℕ → Bool) (n i : ℕ) (z : Scanned) (w : Bool) (p : z ≡ outcome (anyOf b i (n - i)) (w && allOf a i (n - i))) where
-  from-here : ℕ → ℕ → Scanned
-  from-here k m = outcome (anyOf b k m) (w && allOf a k m)
-
-  pub scan-blocked : i < n → b i ≡ true → Blocked ≡ z
-  unfolding anyOf from-here
-  scan-blocked h t = sym (p ∙ more from-here n i h ∙ rw t refl)
-
-  pub scan-turn : i < n → (s : Bool) → (b i ≡ false) × (a i ≡ s) → (v : Bool) → v ≡ (w && s)
-      → z ≡ outcome (anyOf b (i + 1) (n - (i + 1))) (v && allOf a (i + 1) (n - (i + 1)))
-  unfolding anyOf allOf from-here
-  scan-turn h s t v q = p ∙ more from-here n i h ∙ rw (t .0, t .1, q, and-assoc w s) refl
-
-  pub scan-done : n ≤ i → cond w Answered Waiting ≡ z
-  unfolding anyOf allOf from-here
-  scan-done h = sym (p ∙ done from-here n i h ∙ rw (and-true w) refl)
 
 -- ---- up: cells cleared
 
@@ -226,6 +188,47 @@ module _ (f : ℕ → Tag) (n : ℕ) where
         down : (j : ℕ) → j < n → allOf has j (n - j) ≡ false → allOf has 0 n ≡ false
         down zero h p = start (allOf has) n ∙ p
         down (suc j) h p = down j (omega arith) (more (allOf has) n j (omega arith) ∙ rw (add-one, p) (and-false (has j)))
+
+-- ---- down: the scan
+
+-- whether a row blocks and whether it has answered, by what the code tests of it: it lags, it holds back, it has observed
+module _ {l lags : Bool} (holds observed : Bool) (e : l ≡ lags) where
+  pub row-ahead : l ≡ false → ((lags && holds) ≡ false) × ((not lags || observed) ≡ true)
+  row-ahead t = rw (← e, t) (refl, refl)
+
+  pub row-behind : {h o : Bool} (s : Bool) → l ≡ true → h ≡ holds → h ≡ false → o ≡ observed → o ≡ s
+      → ((lags && holds) ≡ false) × ((not lags || observed) ≡ s)
+  row-behind s t f u g v = rw (← e, t, ← f, u, ← g, v) (refl, refl)
+
+pub row-blocks : {l lags h holds : Bool} → l ≡ lags → l ≡ true → h ≡ holds → h ≡ true → (lags && holds) ≡ true
+row-blocks e t f u = rw (← e, t, ← f, u) refl
+
+-- none of the places from i on blocks, and w says whether all of them have answered
+abbrev pub Passed : (ℕ → Bool) → (ℕ → Bool) → ℕ → ℕ → Bool → Type 0
+Passed b a n i w = (anyOf b i (n - i) ≡ false) × (allOf a i (n - i) ≡ w)
+
+module _ (b a : ℕ → Bool) (n : ℕ) where
+  abbrev outcome : Scanned
+  outcome = cond (anyOf b 0 n) Blocked (cond (allOf a 0 n) Answered Waiting)
+
+  pub scan-start : Passed b a n n true
+  unfolding anyOf
+  scan-start = (done (anyOf b) n n (omega arith), every-start a n)
+
+  pub scan-done : (i : ℕ) (w : Bool) → i ≤ 0 → Passed b a n i w → cond w Answered Waiting ≡ outcome
+  scan-done i w h p = rw (← whole (anyOf b) n i h, p .0, every-done a n i h (p .1)) refl
+
+  module _ (i : ℕ) (h : 0 < i) (k : i ≤ n) where
+    pub scan-blocked : b (i - 1) ≡ true → Blocked ≡ outcome
+    unfolding anyOf
+    scan-blocked t =
+        sym (rw (downward (anyOf b) n (λ x. x ≡ true) (i - 1) (omega arith) (λ k l p. rw p (or-true (b k))) (back (anyOf b) n i h k ∙ rw t refl)) refl)
+
+    pub scan-turn : (w s : Bool) → Passed b a n i w → (b (i - 1) ≡ false) × (a (i - 1) ≡ s) → Passed b a n (i - 1) (s && w)
+    unfolding anyOf
+    scan-turn w s p t =
+        let e : i - 1 + 1 ≡ i = omega arith in
+        (back (anyOf b) n i h k ∙ rw (t .0, e, p .0) refl, every-back a n i h k (p .1) (t .1))
 
 -- ---- up: the greatest tag under the horizon
 

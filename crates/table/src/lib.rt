@@ -266,8 +266,10 @@ pub fn scan<'a>(
     ensures { λ r. ⌜ r ≡ cond (anyOf (blocksAt (now (published .entry)) (now (seconds .entry)) (now (nanoseconds .entry)) (now (microsteps .entry)) frontier) 0 count) Blocked (cond (allOf (answeredAt (now (acknowledged .entry)) (now («completion_observed» .entry)) (now (seconds .entry)) (now (nanoseconds .entry)) (now (microsteps .entry)) frontier generation) 0 count) Answered Waiting) ⌝ }
 {
     let mut answered = true;
-    let mut i: usize = 0;
-    while i < count {
+    // From the last down, as in `all_set`: the last is the one that most often blocks.
+    let mut i = count;
+    while 0 < i {
+        i -= 1;
         let completed = tag_at(seconds, nanoseconds, microsteps, COMPLETED + i);
         if lags(completed, frontier) {
             let candidate = tag_at(seconds, nanoseconds, microsteps, i);
@@ -278,7 +280,6 @@ pub fn scan<'a>(
                 answered = false;
             }
         }
-        i += 1;
     }
     if answered {
         Scanned::Answered
