@@ -1,21 +1,15 @@
 // rigscript (document 01, "Script and its listing"): a script on standard input, at most 4,096 of its events run, the listing on standard output, written
 // as it goes. All that it writes is made by crates `run` and `session`; here are the rooms and the loop.
-ghost use mathlib.Core.Path.{_≡_};
-ghost use lib.ListN.{length};
 use libc::STDIN_FILENO;
 use libc::STDOUT_FILENO;
 
 // One byte more than a script may have, so that a longer one shows.
-fn script_room() -> [u8; 65537]
-    ensures { λ r. ⌜ length r ≡ 65537 ⌝ }
-{
+fn script_room() -> [u8; 65537] {
     [0; 65537]
 }
 
 // Room for the listing of ten events at a time.
-fn listing_room() -> [u8; 56000]
-    ensures { λ r. ⌜ length r ≡ 56000 ⌝ }
-{
+fn listing_room() -> [u8; 56000] {
     [0; 56000]
 }
 
