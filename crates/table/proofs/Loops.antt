@@ -1,5 +1,5 @@
 -- One turn of each loop of this crate, on plain values. Going up from 0 to n, at place i: the answer for all places is that for those from i on.
--- Going down from n: the cell in hand means the fold of the places from i on. Assumes nothing.
+-- Going down from n: what is in hand is the answer for the places from i on. Assumes nothing.
 use mathlib.Core.Path.{_≡_, refl, sym, ap, _∙_, subst}
 use mathlib.Core.Bool.{Bool, true, false, not, cond, _&&_, _||_, and-false, or-true}
 use mathlib.Core.List.{List, [], _∷_}
@@ -35,7 +35,17 @@ module _ {A : Type 0} (walk : ℕ → ℕ → A) (n : ℕ) where
   back : (i : ℕ) → 0 < i → i ≤ n → walk (i - 1) (n - (i - 1)) ≡ walk (i - 1) (suc (n - i))
   back i h k = ap (walk (i - 1)) (omega arith)
 
--- ---- up: all, the first place
+  whole : (i : ℕ) → i ≤ 0 → walk i (n - i) ≡ walk 0 n
+  whole i h = let e : i ≡ 0 = omega arith in rw (e, ← start) refl
+
+  -- what holds of the places from j on, and of them with each earlier one put before them, holds of all
+  downward : (P : A → Type 0) (j : ℕ) → j ≤ n → ((k : ℕ) → k < j → P (walk (k + 1) (n - (k + 1))) → P (walk k (suc (n - (k + 1)))))
+      → P (walk j (n - j)) → P (walk 0 n)
+  downward P zero h s p = subst P (sym start) p
+  downward P (suc j) h s p =
+      downward P j (omega arith) (λ k l. s k (omega arith)) (subst P (sym (more j (omega arith))) (s j (omega arith) (rw add-one p)))
+
+-- ---- up: all (for crate observation), the first place
 
 pub all-start : (f : ℕ → Bool) (n : ℕ) → allOf f 0 n ≡ allOf f 0 (n - 0)
 all-start f = start (allOf f)
@@ -68,8 +78,6 @@ module _ (f : ℕ → Bool) (n i z : ℕ) where
   pub place-done : z ≡ placeFrom f i (n - i) → n ≤ i → i ≡ z
   unfolding placeFrom
   place-done p h = sym (p ∙ done (placeFrom f) n i h)
-
-pub ruleset walks = (all-start, all-turn, all-left, all-done)
 
 pub ruleset seeks = (place-start, place-turn, place-found, place-done, eq-eqb, ne-eqb)
 
@@ -160,34 +168,36 @@ module _ {pick : Tag → Tag → Tag} {join : OptionalTag → OptionalTag → Op
     fold-back i acc c r h k p e q = let b : i - 1 + 1 ≡ i = omega arith in rw (q, back over n i h k, w .next, b, ← e) (means-join c acc _ p)
 
     pub fold-done : (i : ℕ) (acc : Tag) → i ≤ 0 → Means acc (over i (n - i)) → acc ≡ cellOf (over 0 n)
-    fold-done i acc h p = let e : i ≡ 0 = omega arith in means-cell p ∙ rw (e, ← start over n) refl
+    fold-done i acc h p = means-cell p ∙ ap cellOf (whole over n i h)
 
--- ---- down: every place has a tag
+-- ---- down: all
 
-module _ (f : ℕ → Tag) (n : ℕ) where
-  abbrev has : ℕ → Bool
-  has j = isPresent (optionalOf (f j))
-
-  pub every-start : allOf has n (n - n) ≡ true
+module _ (f : ℕ → Bool) (n : ℕ) where
+  pub every-start : allOf f n (n - n) ≡ true
   unfolding allOf
-  every-start = done (allOf has) n n (omega arith)
+  every-start = done (allOf f) n n (omega arith)
 
-  pub every-done : (i : ℕ) → i ≤ 0 → allOf has i (n - i) ≡ true → allOf has 0 n ≡ true
-  every-done i h p = let e : i ≡ 0 = omega arith in start (allOf has) n ∙ rw e at p
+  pub every-done : (i : ℕ) → i ≤ 0 → {w : Bool} → allOf f i (n - i) ≡ w → allOf f 0 n ≡ w
+  every-done i h p = sym (whole (allOf f) n i h) ∙ p
 
-  module _ (i : ℕ) (c : Tag) (r : Bool) (h : 0 < i) (k : i ≤ n) (e : c ≡ f (i - 1)) (q : r ≡ isAbsent c) where
-    pub every-back : allOf has i (n - i) ≡ true → r ≡ false → allOf has (i - 1) (n - (i - 1)) ≡ true
+  module _ (i : ℕ) (h : 0 < i) (k : i ≤ n) where
+    pub every-back : {w s : Bool} → allOf f i (n - i) ≡ w → f (i - 1) ≡ s → allOf f (i - 1) (n - (i - 1)) ≡ (s && w)
     unfolding allOf
-    every-back p t = let b : i - 1 + 1 ≡ i = omega arith in back (allOf has) n i h k ∙ rw (← e, ← q, t, b) p
+    every-back p t = let b : i - 1 + 1 ≡ i = omega arith in back (allOf f) n i h k ∙ rw (t, b, p) refl
 
-    -- one place has none
-    pub every-lacks : r ≡ true → allOf has 0 n ≡ false
+    -- one place lacks it
+    pub every-lacks : f (i - 1) ≡ false → allOf f 0 n ≡ false
     unfolding allOf
-    every-lacks t = down (i - 1) (omega arith) (back (allOf has) n i h k ∙ rw (← e, ← q, t) refl)
-      where
-        down : (j : ℕ) → j < n → allOf has j (n - j) ≡ false → allOf has 0 n ≡ false
-        down zero h p = start (allOf has) n ∙ p
-        down (suc j) h p = down j (omega arith) (more (allOf has) n j (omega arith) ∙ rw (add-one, p) (and-false (has j)))
+    every-lacks t =
+        downward (allOf f) n (λ x. x ≡ false) (i - 1) (omega arith) (λ k l p. rw p (and-false (f k))) (back (allOf f) n i h k ∙ rw t refl)
+
+-- whether a cell that was read has a tag
+module _ (d : Tag) {c : Tag} {r : Bool} (e : c ≡ d) (q : r ≡ isAbsent c) where
+  pub has-tag : r ≡ false → isPresent (optionalOf d) ≡ true
+  has-tag t = rw (← e, ← q, t) refl
+
+  pub lacks-tag : r ≡ true → isPresent (optionalOf d) ≡ false
+  lacks-tag t = rw (← e, ← q, t) refl
 
 -- ---- down: the scan
 

@@ -55,12 +55,13 @@ pub fn all_set(flags: &[bool; 32], count: usize) -> bool
     requires { ⌜ count ≤ 32 ⌝ }
     ensures { λ r. ⌜ r ≡ allOf (λ j. getD (now (flags .entry)) j false) 0 count ⌝ }
 {
-    let mut i: usize = 0;
-    while i < count {
+    // From the last down: enclaves publish by ascending index, so the last is the one that is still missing.
+    let mut i = count;
+    while 0 < i {
+        i -= 1;
         if !flags[i] {
             return false;
         }
-        i += 1;
     }
     true
 }

@@ -7,7 +7,8 @@ use borrow.Author.Needs.{needs}
 use Rattle.tags.specs.Tags.{isPresent}
 use Rattle.state.specs.Cells.{optionalOf}
 use Rattle.state.specs.Walk.{allOf, leastFrom}
-use Rattle.table.proofs.Loops.{completedIn, Means, least, fold-start, fold-back, fold-done, every-start, every-back, every-done, every-lacks}
+use Rattle.table.proofs.Loops.{completedIn, Means, least, fold-start, fold-back, fold-done}
+use Rattle.table.proofs.Loops.{every-start, every-back, every-done, every-lacks, has-tag, lacks-tag}
 use Rattle.table.proofs.least_completed.Statement.{statement}
 use Rattle.table.proofs.least_completed.Tie as tie
 
@@ -24,7 +25,7 @@ loop-holds : tie.Need-loop-holds Inv-loop μ-loop
 loop-holds c =
     let a = c .args in
     let tags = completedIn (a .seconds .now) (a .nanoseconds .now) (a .microsteps .now) in
-    (search needs, every-start tags (a .count), fold-start least tags (a .count))
+    (search needs, every-start _ (a .count), fold-start least tags (a .count))
 
 sub-i : tie.Need-sub-i Inv-loop μ-loop
 sub-i c = search needs
@@ -44,7 +45,8 @@ returns c =
     let a = l .before .args in
     let tags = completedIn (a .seconds .now) (a .nanoseconds .now) (a .microsteps .now) in
     let at = c .before .before .tag-at in
-    rw (every-lacks tags (a .count) (l .loop .i) _ _ (search needs) (search needs) (at .ensures) (c .before .is-absent .ensures) (c .if1 .taken)) refl
+    let lacks = lacks-tag (tags (l .loop .i - 1)) (at .ensures) (c .before .is-absent .ensures) (c .if1 .taken) in
+    rw (every-lacks _ (a .count) (l .loop .i) (search needs) (search needs) lacks) refl
 
 lesser-cell-requires : tie.Need-lesser-cell-requires Inv-loop μ-loop
 lesser-cell-requires c κs = search needs
@@ -58,9 +60,10 @@ loop-again c =
     let a = l .before .args in
     let test = c .before .before in
     let at = test .before .tag-at in
-    let tags = completedIn (a .seconds .now) (a .nanoseconds .now) (a .microsteps .now) in (
+    let tags = completedIn (a .seconds .now) (a .nanoseconds .now) (a .microsteps .now) in
+    let has = has-tag (tags (l .loop .i - 1)) (at .ensures) (test .is-absent .ensures) (c .before .if1 .left) in (
       search needs,
-      every-back tags (a .count) (l .loop .i) _ _ (search needs) (search needs) (at .ensures) (test .is-absent .ensures) (l .loop .inv .1) (c .before .if1 .left),
+      every-back _ (a .count) (l .loop .i) (search needs) (search needs) (l .loop .inv .1) has,
       fold-back least tags (a .count) (l .loop .i) _ _ _ (search needs) (search needs) (l .loop .inv .2) (at .ensures) (c .lesser-cell .ensures),
     )
 
@@ -69,7 +72,7 @@ returns-2 c =
     let l = c .before in
     let a = l .before .args in
     let tags = completedIn (a .seconds .now) (a .nanoseconds .now) (a .microsteps .now) in
-    rw (every-done tags (a .count) (l .loop .i) (search needs) (l .loop .inv .1))
+    rw (every-done _ (a .count) (l .loop .i) (search needs) (l .loop .inv .1))
     (fold-done least tags (a .count) (l .loop .i) _ (search needs) (l .loop .inv .2))
 
 pub least-completed-spec : {M : Type 1} → statement M
