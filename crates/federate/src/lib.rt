@@ -5,6 +5,7 @@ ghost use Prim.Native.Nat.{_≤_};
 ghost use lib.ListN.{length};
 ghost use Rattle.bytes.specs.Runs.{putAt};
 ghost use Rattle.actions.specs.Record.{recordsOf};
+ghost use Rattle.state.specs.Parts.{Apart};
 ghost use Rattle.dispatch.specs.Messages.{callOf};
 ghost use Rattle.calls.specs.Called.{lent, actionsOf, Promised};
 ghost use Rattle.federate.specs.Places.{placeOf};
@@ -19,12 +20,12 @@ use state::Parts;
 
 // The place of the enclave that is named, or the first place where nobody is.
 fn place_of(enclaves: &[u32; 32], count: usize, enclave: OptionalEnclave) -> usize
-    requires { ⌜ count ≤ 32 ⌝ }
+    requires { ⌜ (count ≤ 32) × Apart (now enclaves) count ⌝ }
     ensures { λ r. ⌜ r ≡ placeOf enclave (now (enclaves .entry)) count ⌝ }
 {
     match enclave {
         OptionalEnclave::NoEnclave => 0,
-        OptionalEnclave::Enclave(e) => table::find(enclaves, count, e),
+        OptionalEnclave::Enclave(e) => table::seat_of(enclaves, count, e),
     }
 }
 

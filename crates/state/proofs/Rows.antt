@@ -28,7 +28,7 @@ use Rattle.state.specs.declared.Parts.{Parts}
 use Rattle.state.specs.Walk.{tab, allOf, anyOf, placeFrom, leastFrom, greatestFrom, eachFrom}
 use Rattle.state.specs.Cells.{absent, isAbsent, optionalOf, cellOf, isNeat, isCell, tagIn, numberIf, observationOf}
 use Rattle.state.specs.View.{tagAt, rowAt, rowsOf}
-use Rattle.state.specs.Parts.{Sized, Seated, rowOf, rowPut, rebuilt, cleared, withGate}
+use Rattle.state.specs.Parts.{Sized, Apart, Seated, rowOf, rowPut, rebuilt, cleared, withGate}
 
 -- ---- the rules' walks over listed places
 
@@ -186,19 +186,23 @@ rises f k (suc (suc n)) a b h p q r =
     let rest = and-right (ltb (f k .index) (f (k + 1) .index)) (ascending (tab f (k + 1) (suc n))) h in
     up-from (λ j. f j .index) k (k + suc (suc n)) a b (λ c d u v w. rises f (k + 1) (suc n) c d rest u v (omega arith)) first p q r
 
-apart : (s : Held) (i j : ℕ) → T (ascending (rowsOf s)) → i < s .count → j < s .count → (j ≡ i → ⊥) → getD (s .enclaves) j 0 ≡ getD (s .enclaves) i 0 → ⊥
-apart s i j a l m n z = go (ltb i j) refl (ltb j i) refl
+pub apart : (s : Held) → T (ascending (rowsOf s)) → Apart (s .enclaves) (s .count)
+apart s a i j l m z = let r = rises (rowAt s) 0 (s .count) i j a (omega arith) l (omega arith) in omega arith
+
+elsewhere : (s : Held) (i j : ℕ) → T (ascending (rowsOf s)) → i < s .count → j < s .count → (j ≡ i → ⊥)
+    → getD (s .enclaves) j 0 ≡ getD (s .enclaves) i 0 → ⊥
+elsewhere s i j a l m n z = go (ltb i j) refl (ltb j i) refl
   where
     go : (u : Bool) → ltb i j ≡ u → (v : Bool) → ltb j i ≡ v → ⊥
-    go true y v x = let r = rises (rowAt s) 0 (s .count) i j a (omega arith) (ltb-true i j y) (omega arith) in omega arith
-    go false y true x = let r = rises (rowAt s) 0 (s .count) j i a (omega arith) (ltb-true j i x) (omega arith) in omega arith
+    go true y v x = apart s a i j (ltb-true i j y) m (sym z)
+    go false y true x = apart s a j i (ltb-true j i x) l z
     go false y false x = let p = ltb-false i j y in let q = ltb-false j i x in n (omega arith)
 
 seated-at : (s : Held) (e i : ℕ) → T (ascending (rowsOf s)) → i < s .count → getD (s .enclaves) i 0 ≡ e → Seated s e i
 seated-at s e i a l v = record {
   within = l;
   here = eq-eqb (getD (s .enclaves) i 0) e v;
-  others = λ j m n. ne-eqb (getD (s .enclaves) j 0) e (λ z. apart s i j a l m n (z ∙ sym v));
+  others = λ j m n. ne-eqb (getD (s .enclaves) j 0) e (λ z. elsewhere s i j a l m n (z ∙ sym v));
 }
 
 pub first-seated : (s : Held) → T (ascending (rowsOf s)) → 0 < s .count → Seated s (getD (s .enclaves) 0 0) 0

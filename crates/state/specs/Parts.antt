@@ -26,6 +26,10 @@ pub record Sized (s : Held) : Type 0 where
   pub nanoseconds : length (s .nanoseconds) ≡ 96
   pub microsteps : length (s .microsteps) ≡ 96
 
+-- no two of the first n places hold the same number
+abbrev pub Apart : List ℕ → ℕ → Type 0
+Apart es n = (i j : ℕ) → i < j → j < n → getD es i 0 ≡ getD es j 0 → ⊥
+
 -- enclave e stands at place i, and nowhere else
 pub record Seated (s : Held) (e i : ℕ) : Type 0 where
   pub within : i < s .count

@@ -8,15 +8,15 @@ use native.Mathlib.Nat.{not-suc-le-zero}
 use native.Mathlib.Numerals.{add-one}
 use native.Mathlib.Omega.{arith}
 use borrow.Author.Tests.{not-true, not-false, eq-eqb, ne-eqb}
-use lib.Dec.{T}
+use lib.Dec.{T, eqb}
 use lib.IntN.{ℤ}
-use lib.ListN.{length, set}
+use lib.ListN.{length, getD, set}
 use Rattle.tags.specs.Tags.{_≤ₜ_, _<ₜ_, isPresent, isBelow, lesserOf, greaterOf, lesserPresent, greaterPresent, lesserOfBoth}
 use Rattle.tags.proofs.Order.{≤ₜ-trans, ≤ₜ-total, greater-le-left, lesser-left, lesser-right, greater-comm, greater-assoc}
 use Rattle.rules.specs.Model.{Tag, OptionalTag, NoTag, At}
 use Rattle.state.specs.Cells.{absent, isAbsent, optionalOf, cellOf, tagIn}
 use Rattle.state.specs.Walk.{allOf, anyOf, placeFrom, leastFrom, greatestFrom}
-use Rattle.state.specs.Parts.{cleared}
+use Rattle.state.specs.Parts.{Apart, cleared}
 use Rattle.table.specs.declared.Scanned.{Scanned}
 use Rattle.table.specs.declared.Scanned.the-variants.{Blocked, Waiting, Answered}
 
@@ -78,6 +78,16 @@ module _ (f : ℕ → Bool) (n i z : ℕ) where
   pub place-done : z ≡ placeFrom f i (n - i) → n ≤ i → i ≡ z
   unfolding placeFrom
   place-done p h = sym (p ∙ done (placeFrom f) n i h)
+
+-- the place in hand is the first, since no other holds the same number
+pub place-only : (es : List ℕ) (n e g : ℕ) → Apart es n → g < n → getD es g 0 ≡ e → g ≡ placeFrom (λ j. eqb (getD es j 0) e) 0 n
+unfolding placeFrom
+place-only es n e g d h t =
+    downward (placeFrom holds) n (λ j. g ≡ j) g (omega arith) (λ k l p. rw (ne-eqb (getD es k 0) e (λ z. d k g l h (z ∙ sym t))) p)
+    (sym (more (placeFrom holds) n g h ∙ rw (eq-eqb (getD es g 0) e t) refl))
+  where
+    holds : ℕ → Bool
+    holds j = eqb (getD es j 0) e
 
 pub ruleset seeks = (place-start, place-turn, place-found, place-done, eq-eqb, ne-eqb)
 

@@ -10,7 +10,7 @@ ghost use Rattle.rules.specs.Model.{NoTag};
 ghost use Rattle.rules.specs.Walk.{isNumber};
 ghost use Rattle.state.specs.Cells.{isAbsent, optionalOf, cellOf, tagIn, numberIf};
 ghost use Rattle.state.specs.Walk.{allOf, anyOf, placeFrom, leastFrom, greatestFrom};
-ghost use Rattle.state.specs.Parts.{cleared};
+ghost use Rattle.state.specs.Parts.{Apart, cleared};
 ghost use Rattle.table.specs.declared.Scanned.the-variants.{Blocked, Waiting, Answered};
 ghost use Rattle.table.specs.Scan.{blocksAt, answeredAt};
 use state::ABSENT;
@@ -48,6 +48,20 @@ pub fn find(enclaves: &[u32; 32], count: usize, enclave: u32) -> usize
         i += 1;
     }
     i
+}
+
+// `find` where no two of the places hold the same number: the enclave's own number is tried first, as where indices are dense it is the place.
+pub fn seat_of(enclaves: &[u32; 32], count: usize, enclave: u32) -> usize
+    requires { ⌜ (count ≤ 32) × Apart (now enclaves) count ⌝ }
+    ensures { λ r. ⌜ r ≡ placeFrom (λ j. eqb (getD (now (enclaves .entry)) j 0) enclave) 0 count ⌝ }
+{
+    let guess = enclave as usize;
+    if guess < count {
+        if enclaves[guess] == enclave {
+            return guess;
+        }
+    }
+    find(enclaves, count, enclave)
 }
 
 // Whether all of the first `count` flags are set.

@@ -17,6 +17,7 @@ use Rattle.state.specs.declared.Decided.{Decided}
 use Rattle.state.specs.View.{view, represents}
 use Rattle.state.specs.Parts.{Sized, rowOf, partsOf}
 use Rattle.state.specs.Decides.{Decides, halfway, neatParts}
+use Rattle.state.proofs.Rows.{apart}
 use Rattle.calls.specs.Called.{lent, roomFirst}
 use Rattle.calls.proofs.Standing.{sized-by, whole, Standing, standing}
 use Rattle.calls.proofs.Ends.{First, ends-27, ends-first, first-none}
@@ -245,7 +246,10 @@ proper-if-present-requires : tie.Need-proper-if-present-requires
 proper-if-present-requires c κs = tt
 
 place-of-requires : tie.Need-place-of-requires
-place-of-requires c κs = stands (c .before .before .before .before) .few
+place-of-requires c κs =
+    let b = c .before .before .before .before in
+    let st = stands b in
+    (st .few, apart (entry (b .before) .args .t1) (st .ascends))
 
 tag-first-requires : tie.Need-tag-first-requires
 tag-first-requires c κs = tt
