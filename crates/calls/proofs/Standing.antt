@@ -16,12 +16,15 @@ use Rattle.rules.specs.Walk.{quiet}
 use Rattle.rules.specs.Calls.{facts, takeStep, isSound, ascending, refusedAnswer}
 use Rattle.rules.proofs.Sound.{sound-ascending}
 use Rattle.state.specs.declared.FederateCoordinationState.{FederateCoordinationState as Held}
+use Rattle.state.specs.Cells.{isCell}
 use Rattle.state.specs.View.{rowsOf, view, represents}
 use Rattle.state.specs.Parts.{Sized}
 use Rattle.state.specs.Decides.{Good}
 use Rattle.state.proofs.Neat.{count-bounds}
 use Rattle.state.proofs.Put.{Beyond, beyond-refl, holds-is-put}
-use Rattle.soundness.specs.Lent.{Lent}
+use Rattle.soundness.specs.Lent.{Lent, LentColumns}
+use Rattle.soundness.specs.Sound.{soundPublication, soundFlags, soundInputs, soundAcquisition, soundRest, soundSmall}
+use Rattle.soundness.proofs.Sound.{small-by-leaves, columns-of}
 use Rattle.calls.specs.Called.{refusalOf, Promised, replied}
 use Rattle.calls.specs.declared.Called.{Called}
 use Rattle.calls.proofs.Refusals.{Passes, passes, refusal-27, refused, taken}
@@ -69,6 +72,25 @@ whole s = record {
   failure = refl;
   lifecycle = refl;
 }
+
+-- what 27 asks of it, by its small parts' tests, of coordination and completion and then of the rest, and by the columns' own
+pub sound-by-leaves : (s : Held) {flags publication frontiers inputs both horizons acquisition rest small r : Bool}
+    → let c = s .coordination in let k = s .completion in let g = s .gate in
+    flags ≡ soundFlags (c .phase) (c .authorized) (c .«idle_authorization»)
+    → publication ≡ soundPublication (c .pending) (c .«pending_revision») (c .«pending_next_event») (c .«pending_grant_horizon»)
+    → frontiers ≡ (isCell (k .«completed_frontier») && isCell (k .«completion_probe»))
+    → inputs ≡ soundInputs (k .«first_input») (k .«last_input»)
+    → both ≡ (flags && publication && frontiers && inputs)
+    → horizons ≡ (isCell (g .«input_horizon») && isCell (g .granted))
+    → acquisition ≡ soundAcquisition (g .«stored_revision») (g .«stored_granted»)
+    → rest ≡ soundRest (s .«grant_horizon») (s .failed) (s .«first_failure») (s .lifecycle)
+    → small ≡ (both && horizons && acquisition && rest)
+    → (LentColumns s (s .enclaves) (s .observation) (s .acknowledged) (s .«completion_observed») (s .seconds) (s .nanoseconds) (s .microsteps) (s .count)
+    → small ≡ soundSmall s → r ≡ (represents s && isSound (view s)))
+    → r ≡ (represents s && isSound (view s))
+sound-by-leaves s a b d i p j q r z by-columns =
+    by-columns (columns-of (whole s))
+    (small-by-leaves (s .coordination) (s .completion) (s .gate) (s .«grant_horizon») (s .failed) (s .«first_failure») (s .lifecycle) a b d i j q r p z)
 
 -- ---- a state that passes 27
 
