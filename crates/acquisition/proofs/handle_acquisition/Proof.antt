@@ -14,7 +14,7 @@ use Rattle.state.specs.View.{view, represents}
 use Rattle.state.specs.Parts.{Sized}
 use Rattle.calls.specs.Called.{lent, refusalOf, roomFirst}
 use Rattle.grants.specs.Acquire.{Acquires}
-use Rattle.calls.proofs.Standing.{sized-by, whole, Standing, standing, is-so}
+use Rattle.calls.proofs.Standing.{sized-by, sound-by-leaves, Standing, standing, is-so}
 use Rattle.calls.proofs.Ends.{First, ends-27, ends-first, first-none}
 use Rattle.acquisition.proofs.Acquiring.{acquire-taken, stays-promised, moves-promised}
 use Rattle.acquisition.proofs.handle_acquisition.Statement.{statement}
@@ -22,8 +22,15 @@ use Rattle.acquisition.proofs.handle_acquisition.Tie as tie
 
 -- ---- the places on the way
 
-abbrev begun : tie.After-is-sound → tie.Start
-begun c = c .before .before .before .before .before .before .before .before .before .before .before .before .before .before .before
+-- the tests of the small parts, seen from the test of the columns, and the first of them
+abbrev small : tie.After-is-sound-with → tie.After-all-hold2
+small c = c .before .before .before .before .before .before .before .before .before
+
+abbrev flagged : tie.After-all-hold2 → tie.After-flags-are-sound
+flagged c = c .before .before .before .before .before .before .before .before
+
+abbrev begun : tie.After-is-sound-with → tie.Start
+begun c = flagged (small c) .before .before .before .before .before .before .before .before .before .before .before .before .before .before .before .before
 
 abbrev given : tie.Start → Given
 given e = lent (length (e .args .room .now)) (acquire (e .args .acquisition .revision) (e .args .acquisition .granted))
@@ -34,8 +41,19 @@ sized e =
     sized-by (e .args .t1) (f .0 .1 .0 .1) (f .1 .0 .1 .0 .1) (f .1 .1 .0 .1 .0 .1) (f .1 .1 .1 .0 .1 .0 .1) (f .1 .1 .1 .1 .0 .1 .0 .1)
     (f .1 .1 .1 .1 .1 .0 .1 .0 .1) (f .1 .1 .1 .1 .1 .1 .0 .1 .0 .1) (f .1 .1 .1 .1 .1 .1 .1 .0 .1 .0 .1)
 
-tested : (c : tie.After-is-sound) → let s = begun c .args .t1 in c .is-sound .result ≡ (represents s && isSound (view s))
-tested c = let s = begun c .args .t1 in c .is-sound .ensures s (whole s)
+tested : (c : tie.After-is-sound-with) → let s = begun c .args .t1 in c .is-sound-with .result ≡ (represents s && isSound (view s))
+tested c =
+    let s = begun c .args .t1 in
+    let rest = small c .before in
+    let acquisition = rest .before in
+    let horizons = acquisition .before in
+    let both = horizons .before in
+    let inputs = both .before in
+    let frontiers = inputs .before in
+    let publication = frontiers .before in
+    sound-by-leaves s (publication .before .flags-are-sound .ensures) (publication .publication-is-sound .ensures) (frontiers .are-cells .ensures)
+    (inputs .inputs-are-sound .ensures) (both .all-hold .ensures) (horizons .are-cells2 .ensures) (acquisition .acquisition-is-sound .ensures)
+    (rest .rest-is-sound .ensures) (small c .all-hold2 .ensures) (c .is-sound-with .ensures s)
 
 stands : (c : tie.Else1) → Standing (begun (c .before) .args .t1)
 stands c = standing (begun (c .before) .args .t1) (sized (begun (c .before))) (tested (c .before)) (c .if1 .left)
@@ -81,8 +99,35 @@ decided c = c .acquire .ensures (start (c .before) .args .t1) (stands (home (c .
 
 -- ---- 27
 
-is-sound-requires : tie.Need-is-sound-requires
-is-sound-requires c κs = tt
+flags-are-sound-requires : tie.Need-flags-are-sound-requires
+flags-are-sound-requires c κs = tt
+
+publication-is-sound-requires : tie.Need-publication-is-sound-requires
+publication-is-sound-requires c κs = tt
+
+are-cells-requires : tie.Need-are-cells-requires
+are-cells-requires c κs = tt
+
+inputs-are-sound-requires : tie.Need-inputs-are-sound-requires
+inputs-are-sound-requires c κs = tt
+
+all-hold-requires : tie.Need-all-hold-requires
+all-hold-requires c κs = tt
+
+are-cells-requires-2 : tie.Need-are-cells-requires-2
+are-cells-requires-2 c κs = tt
+
+acquisition-is-sound-requires : tie.Need-acquisition-is-sound-requires
+acquisition-is-sound-requires c κs = tt
+
+rest-is-sound-requires : tie.Need-rest-is-sound-requires
+rest-is-sound-requires c κs = tt
+
+all-hold-requires-2 : tie.Need-all-hold-requires-2
+all-hold-requires-2 c κs = tt
+
+is-sound-with-requires : tie.Need-is-sound-with-requires
+is-sound-with-requires c κs = tt
 
 with-reply-requires : tie.Need-with-reply-requires
 with-reply-requires c κs = tt
@@ -179,7 +224,16 @@ pub handle-acquisition-spec : {M : Type 1} → statement M
 handle-acquisition-spec =
     tie.close
     (tie.spec
-    is-sound-requires
+    flags-are-sound-requires
+    publication-is-sound-requires
+    are-cells-requires
+    inputs-are-sound-requires
+    all-hold-requires
+    are-cells-requires-2
+    acquisition-is-sound-requires
+    rest-is-sound-requires
+    all-hold-requires-2
+    is-sound-with-requires
     with-reply-requires
     returns
     is-proper-requires
