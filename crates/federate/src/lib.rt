@@ -45,7 +45,38 @@ pub fn handle_scheduler(
     let gate = state.gate;
     let horizon = state.grant_horizon;
     let lifecycle = state.lifecycle;
-    if !soundness::is_sound(
+    // The small parts are tested where they are at hand, since a test that takes them by value costs their copies.
+    let next_event = coordination.pending_next_event;
+    let pending_horizon = coordination.pending_grant_horizon;
+    let frontier = completion.completed_frontier;
+    let probe = completion.completion_probe;
+    let first_input = completion.first_input;
+    let last_input = completion.last_input;
+    let input_horizon = gate.input_horizon;
+    let granted = gate.granted;
+    let stored = gate.stored_granted;
+    let both = soundness::all_hold(
+        soundness::flags_are_sound(
+            coordination.phase,
+            coordination.authorized,
+            coordination.idle_authorization,
+        ),
+        soundness::publication_is_sound(
+            coordination.pending,
+            coordination.pending_revision,
+            next_event,
+            pending_horizon,
+        ),
+        soundness::are_cells(frontier, probe),
+        soundness::inputs_are_sound(first_input, last_input),
+    );
+    let small = soundness::all_hold(
+        both,
+        soundness::are_cells(input_horizon, granted),
+        soundness::acquisition_is_sound(gate.stored_revision, stored),
+        soundness::rest_is_sound(horizon, state.failed, state.first_failure, lifecycle),
+    );
+    if !soundness::is_sound_with(
         &state.enclaves,
         &state.observation,
         &state.acknowledged,
@@ -54,13 +85,7 @@ pub fn handle_scheduler(
         &state.nanoseconds,
         &state.microsteps,
         count,
-        coordination,
-        completion,
-        gate,
-        horizon,
-        state.failed,
-        state.first_failure,
-        lifecycle,
+        small,
     ) {
         return calls::with_reply(state, Refusal::UnsoundState, Answer::Silent, 0);
     }

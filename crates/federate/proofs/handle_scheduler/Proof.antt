@@ -19,7 +19,7 @@ use Rattle.state.specs.Parts.{Sized, rowOf, partsOf}
 use Rattle.state.specs.Decides.{Decides, halfway, neatParts}
 use Rattle.state.proofs.Rows.{apart}
 use Rattle.calls.specs.Called.{lent, roomFirst}
-use Rattle.calls.proofs.Standing.{sized-by, whole, Standing, standing}
+use Rattle.calls.proofs.Standing.{sized-by, sound-by-leaves, Standing, standing}
 use Rattle.calls.proofs.Ends.{First, ends-27, ends-first, first-none}
 use Rattle.completion.specs.Advance.{Advances}
 use Rattle.dispatch.specs.declared.Flat.{Flat}
@@ -34,12 +34,30 @@ use Rattle.federate.proofs.handle_scheduler.Tie as tie
 
 -- ---- what is known along the way
 
--- the call's entry, seen from where 27 is asked
-abbrev entry : tie.After-is-sound → tie.Start
-entry c = c .before .before .before .before .before .before .before .before .before .before .before .before .before .before
+-- the tests of the small parts, seen from the test of the columns, and the first of them
+abbrev small : tie.After-is-sound-with → tie.After-all-hold2
+small c = c .before .before .before .before .before .before .before .before .before
 
-sound-is : (c : tie.After-is-sound) → c .is-sound .result ≡ (represents (entry c .args .t1) && isSound (view (entry c .args .t1)))
-sound-is c = c .is-sound .ensures (entry c .args .t1) (whole (entry c .args .t1))
+abbrev flagged : tie.After-all-hold2 → tie.After-flags-are-sound
+flagged c = c .before .before .before .before .before .before .before .before
+
+-- the call's entry, seen from where 27 is asked
+abbrev entry : tie.After-is-sound-with → tie.Start
+entry c = flagged (small c) .before .before .before .before .before .before .before .before .before .before .before .before .before .before .before
+
+sound-is : (c : tie.After-is-sound-with) → c .is-sound-with .result ≡ (represents (entry c .args .t1) && isSound (view (entry c .args .t1)))
+sound-is c =
+    let s = entry c .args .t1 in
+    let rest = small c .before in
+    let acquisition = rest .before in
+    let horizons = acquisition .before in
+    let both = horizons .before in
+    let inputs = both .before in
+    let frontiers = inputs .before in
+    let publication = frontiers .before in
+    sound-by-leaves s (publication .before .flags-are-sound .ensures) (publication .publication-is-sound .ensures) (frontiers .are-cells .ensures)
+    (inputs .inputs-are-sound .ensures) (both .all-hold .ensures) (horizons .are-cells2 .ensures) (acquisition .acquisition-is-sound .ensures)
+    (rest .rest-is-sound .ensures) (small c .all-hold2 .ensures) (c .is-sound-with .ensures s)
 
 sized : (c : tie.Start) → Sized (c .args .t1)
 sized c =
@@ -228,8 +246,35 @@ joined c =
 
 -- ---- the needs
 
-is-sound-requires : tie.Need-is-sound-requires
-is-sound-requires c κs = tt
+flags-are-sound-requires : tie.Need-flags-are-sound-requires
+flags-are-sound-requires c κs = tt
+
+publication-is-sound-requires : tie.Need-publication-is-sound-requires
+publication-is-sound-requires c κs = tt
+
+are-cells-requires : tie.Need-are-cells-requires
+are-cells-requires c κs = tt
+
+inputs-are-sound-requires : tie.Need-inputs-are-sound-requires
+inputs-are-sound-requires c κs = tt
+
+all-hold-requires : tie.Need-all-hold-requires
+all-hold-requires c κs = tt
+
+are-cells-requires-2 : tie.Need-are-cells-requires-2
+are-cells-requires-2 c κs = tt
+
+acquisition-is-sound-requires : tie.Need-acquisition-is-sound-requires
+acquisition-is-sound-requires c κs = tt
+
+rest-is-sound-requires : tie.Need-rest-is-sound-requires
+rest-is-sound-requires c κs = tt
+
+all-hold-requires-2 : tie.Need-all-hold-requires-2
+all-hold-requires-2 c κs = tt
+
+is-sound-with-requires : tie.Need-is-sound-with-requires
+is-sound-with-requires c κs = tt
 
 with-reply-requires : tie.Need-with-reply-requires
 with-reply-requires c κs = tt
@@ -431,7 +476,16 @@ pub handle-scheduler-spec : {M : Type 1} → statement M
 handle-scheduler-spec =
     tie.close
     (tie.spec
-    is-sound-requires
+    flags-are-sound-requires
+    publication-is-sound-requires
+    are-cells-requires
+    inputs-are-sound-requires
+    all-hold-requires
+    are-cells-requires-2
+    acquisition-is-sound-requires
+    rest-is-sound-requires
+    all-hold-requires-2
+    is-sound-with-requires
     with-reply-requires
     returns
     flat-of-requires
