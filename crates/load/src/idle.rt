@@ -5,7 +5,9 @@ use crate::given::Load;
 use crate::steps;
 use crate::totals;
 use crate::totals::Totals;
+use records::Answer;
 use records::Observation;
+use records::Refusal;
 use records::SchedulerMessage;
 use state::FederateCoordinationState;
 use tags::OptionalTag;
@@ -15,6 +17,13 @@ const PUBLISHES: u8 = 0;
 const CONFIRMS: u8 = 4;
 
 const REVIVES: u8 = 8;
+
+fn idle_message(enclave: u32) -> SchedulerMessage {
+    SchedulerMessage::Publish {
+        enclave,
+        next_event: OptionalTag::NoTag,
+    }
+}
 
 // The stages 1, 2 and 3 come again as 5, 6 and 7.
 fn observation_at(stage: u8) -> Observation {
@@ -39,40 +48,27 @@ pub fn play(opened: FederateCoordinationState, load: Load) -> Totals
     let mut space: [u8; 1904] = [0; 1904];
     let room: &mut [u8] = &mut space;
     let revived: [u32; 1] = [0];
-    let mut state = opened;
+    let mut called = calls::with_reply(opened, Refusal::Taken, Answer::Silent, 0);
     let mut totals = totals::nothing();
     let mut step = steps::first();
     while step.turn <= load.turns {
+        let state = called.state;
         let coordination = state.coordination;
         let revision = coordination.revision;
         let enclave = step.enclave;
         let stage = step.stage;
         if stage == PUBLISHES {
-            let said = SchedulerMessage::Publish {
-                enclave,
-                next_event: OptionalTag::NoTag,
-            };
-            let called = federate::handle_scheduler(state, said, room);
-            let reply = called.reply;
-            state = called.state;
-            totals = totals::added(totals, reply);
+            called = federate::handle_scheduler(state, idle_message(enclave), room);
         } else if stage == CONFIRMS {
-            let called = observation::handle_idle_confirmation(state, revision, room);
-            let reply = called.reply;
-            state = called.state;
-            totals = totals::added(totals, reply);
+            called = observation::handle_idle_confirmation(state, revision, room);
         } else if stage == REVIVES {
-            let called = gate::input_publishing(state, &revived);
-            let reply = called.reply;
-            state = called.state;
-            totals = totals::added(totals, reply);
+            called = gate::input_publishing(state, &revived);
         } else {
             let seen = observation_at(stage);
-            let called = observation::handle_observation(state, enclave, revision, seen, room);
-            let reply = called.reply;
-            state = called.state;
-            totals = totals::added(totals, reply);
+            called = observation::handle_observation(state, enclave, revision, seen, room);
         }
+        let reply = called.reply;
+        totals = totals::added(totals, reply);
         step = steps::next(load, step, is_alone(stage), REVIVES);
     }
     totals

@@ -1,17 +1,21 @@
 -- `load::idle::play` is safe and ends: each step lies after the one before, and none after the last turn. Assumes nothing.
 use Prim.Native.Nat.{_+_, _*_, _-_, _≤_}
+use native.Mathlib.Omega.{arith}
 use borrow.Author.Needs.{needs}
 use Rattle.load.proofs.idle.play.Statement.{statement}
 use Rattle.load.proofs.idle.play.Tie as tie
 
 abbrev Inv-loop : tie.InvT-loop
-Inv-loop load room₀ revived state₀ totals₀ step₀ room state totals step = (step .stage ≤ 8) × (step .place ≤ 31) × (step .enclave ≤ 4095 * step .place)
+Inv-loop load room₀ revived called₀ totals₀ step₀ room called totals step = (step .stage ≤ 8) × (step .place ≤ 31) × (step .enclave ≤ 4095 * step .place)
 
 abbrev μ-loop : tie.MeasureT-loop
-μ-loop load room₀ revived state₀ totals₀ step₀ room state totals step = 28800288 - (288 * step .turn + 32 * step .stage + step .place)
+μ-loop load room₀ revived called₀ totals₀ step₀ room called totals step = 28800288 - (288 * step .turn + 32 * step .stage + step .place)
 
 slice-aggregate-room : tie.Need-slice-aggregate-room Inv-loop μ-loop
 slice-aggregate-room c = search needs
+
+with-reply-requires : tie.Need-with-reply-requires Inv-loop μ-loop
+with-reply-requires c κs = tt
 
 nothing-requires : tie.Need-nothing-requires Inv-loop μ-loop
 nothing-requires c κs = tt
@@ -22,17 +26,14 @@ first-requires c κs = tt
 loop-holds : tie.Need-loop-holds Inv-loop μ-loop
 loop-holds c = search needs
 
+idle-message-requires : tie.Need-idle-message-requires Inv-loop μ-loop
+idle-message-requires c κs = tt
+
 handle-scheduler-requires : tie.Need-handle-scheduler-requires Inv-loop μ-loop
 handle-scheduler-requires c κs = tt
 
-added-requires : tie.Need-added-requires Inv-loop μ-loop
-added-requires c κs = tt
-
 handle-idle-confirmation-requires : tie.Need-handle-idle-confirmation-requires Inv-loop μ-loop
 handle-idle-confirmation-requires c κs = tt
-
-added-requires-2 : tie.Need-added-requires-2 Inv-loop μ-loop
-added-requires-2 c κs = tt
 
 slice-aggregate-input-publishing : tie.Need-slice-aggregate-input-publishing Inv-loop μ-loop
 slice-aggregate-input-publishing c = search needs
@@ -40,17 +41,14 @@ slice-aggregate-input-publishing c = search needs
 input-publishing-requires : tie.Need-input-publishing-requires Inv-loop μ-loop
 input-publishing-requires c κs = tt
 
-added-requires-3 : tie.Need-added-requires-3 Inv-loop μ-loop
-added-requires-3 c κs = tt
-
 observation-at-requires : tie.Need-observation-at-requires Inv-loop μ-loop
 observation-at-requires c κs = tt
 
 handle-observation-requires : tie.Need-handle-observation-requires Inv-loop μ-loop
 handle-observation-requires c κs = tt
 
-added-requires-4 : tie.Need-added-requires-4 Inv-loop μ-loop
-added-requires-4 c κs = tt
+added-requires : tie.Need-added-requires Inv-loop μ-loop
+added-requires c κs = tt
 
 is-alone-requires : tie.Need-is-alone-requires Inv-loop μ-loop
 is-alone-requires c κs = tt
@@ -59,7 +57,10 @@ next-requires : tie.Need-next-requires Inv-loop μ-loop
 next-requires c κs = search needs
 
 loop-less : tie.Need-loop-less Inv-loop μ-loop
-loop-less c = search needs
+loop-less c =
+    let test = c .before .before .before .before .before .before .before in
+    let loop = test .before .before .before in
+    omega (arith, test .if1 .taken, loop .loop .inv, loop .before .before .before .before .before .pre, c .next .ensures)
 
 loop-again : tie.Need-loop-again Inv-loop μ-loop
 loop-again c = search needs
@@ -74,19 +75,18 @@ play-spec =
     Inv-loop
     μ-loop
     slice-aggregate-room
+    with-reply-requires
     nothing-requires
     first-requires
     loop-holds
+    idle-message-requires
     handle-scheduler-requires
-    added-requires
     handle-idle-confirmation-requires
-    added-requires-2
     slice-aggregate-input-publishing
     input-publishing-requires
-    added-requires-3
     observation-at-requires
     handle-observation-requires
-    added-requires-4
+    added-requires
     is-alone-requires
     next-requires
     loop-less
