@@ -32,6 +32,7 @@ mod delay;
 mod dump;
 mod generate;
 mod listing;
+mod load;
 mod prng;
 mod program;
 mod run;
@@ -40,6 +41,7 @@ mod shrink;
 mod slip;
 
 pub use commands::{compare_main, generate_main, oracle_main};
+pub use load::load_main;
 // For what is compared in one process: host/.
 pub use dump::listing_with_states;
 pub use generate::generate;

@@ -41,6 +41,11 @@ impl FederateCoordinationState {
         self.completion_generation = generation;
     }
 
+    /// The generation that an answer to a completion probe names.
+    pub(crate) fn generation(&self) -> u64 {
+        self.completion_generation
+    }
+
     /// A copy to try a call on; the struct itself derives no `Clone`.
     pub(crate) fn copy(&self) -> Self {
         Self {

@@ -1,0 +1,3 @@
+fn main() {
+    spindlecove_oracle::load_main();
+}
