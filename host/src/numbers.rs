@@ -20,6 +20,14 @@ pub struct TagNumbers {
     pub tag: Tag,
 }
 
+impl TagNumbers {
+    pub const ABSENT: Self = Self { present: false, tag: Tag::ZERO };
+
+    pub const fn present(tag: Tag) -> Self {
+        Self { present: true, tag }
+    }
+}
+
 #[repr(C)]
 #[derive(Clone, Copy, Debug, Eq, PartialEq)]
 pub struct CallNumbers {
@@ -31,6 +39,20 @@ pub struct CallNumbers {
     pub number: u64,
     pub first: TagNumbers,
     pub second: TagNumbers,
+}
+
+impl CallNumbers {
+    /// A call of no kind, to be filled in.
+    pub const BLANK: Self = Self {
+        kind: 0,
+        observation: 0,
+        network_input: false,
+        named: false,
+        enclave: 0,
+        number: 0,
+        first: TagNumbers::ABSENT,
+        second: TagNumbers::ABSENT,
+    };
 }
 
 #[repr(C)]

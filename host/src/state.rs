@@ -11,19 +11,7 @@ use crate::{
 
 type Actions = Result<Vec<CoordinationAction>, Refusal>;
 
-const ABSENT: TagNumbers = TagNumbers { present: false, tag: Tag::ZERO };
-
-/// A call of no kind, to be filled in.
-const BLANK: CallNumbers = CallNumbers {
-    kind: 0,
-    observation: 0,
-    network_input: false,
-    named: false,
-    enclave: 0,
-    number: 0,
-    first: ABSENT,
-    second: ABSENT,
-};
+const BLANK: CallNumbers = CallNumbers::BLANK;
 
 /// One federate's coordination state, with the room that its calls write their actions into. A refused
 /// call changes nothing.
@@ -59,7 +47,7 @@ impl FederateCoordinationState {
     }
 
     pub fn handle_acquisition(&mut self, acquisition: FederateAcquisition) -> Actions {
-        let first = present(acquisition.granted());
+        let first = TagNumbers::present(acquisition.granted());
         self.act(CallNumbers { kind: 7, number: acquisition.revision().value(), first, ..BLANK })
     }
 
@@ -102,7 +90,7 @@ impl FederateCoordinationState {
     }
 
     pub fn begin_tag(&mut self, enclave: EnclaveIndex, tag: Tag) -> Result<bool, Refusal> {
-        let first = present(tag);
+        let first = TagNumbers::present(tag);
         self.taken(CallNumbers { kind: 13, enclave: enclave.0, first, ..BLANK }, &[]).map(is_yes)
     }
 
@@ -206,7 +194,8 @@ impl FederateCoordinationState {
 
     /// A call that only answers is made on a copy, so that the state need not be borrowed for writing.
     fn answer(&self, kind: u8, enclave: EnclaveIndex, tag: Tag) -> Result<bool, Refusal> {
-        let call = CallNumbers { kind, enclave: enclave.0, first: present(tag), ..BLANK };
+        let first = TagNumbers::present(tag);
+        let call = CallNumbers { kind, enclave: enclave.0, first, ..BLANK };
         let reply = numbers::call(&mut self.held.clone(), call, &[], &mut []);
         Refusal::check(reply.refusal).map(|()| is_yes(reply))
     }
@@ -221,7 +210,7 @@ fn call_of(message: SchedulerMessage) -> CallNumbers {
             CallNumbers { kind: 2, enclave: enclave.0, first: given(next_event), ..BLANK }
         }
         SchedulerMessage::CompleteTag { enclave, tag, network_input } => {
-            let first = present(tag);
+            let first = TagNumbers::present(tag);
             CallNumbers { kind: 3, enclave: enclave.0, first, network_input, ..BLANK }
         }
         SchedulerMessage::CompletionObserved { enclave, generation } => {
@@ -269,12 +258,8 @@ fn publication(revision: u64, next_event: TagNumbers, horizon: TagNumbers) -> Fe
         .with_grant_horizon(optional(horizon))
 }
 
-fn present(tag: Tag) -> TagNumbers {
-    TagNumbers { present: true, tag }
-}
-
 fn given(tag: Option<Tag>) -> TagNumbers {
-    tag.map_or(ABSENT, present)
+    tag.map_or(TagNumbers::ABSENT, TagNumbers::present)
 }
 
 fn optional(numbers: TagNumbers) -> Option<Tag> {
