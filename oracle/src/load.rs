@@ -19,8 +19,8 @@ pub fn load_main() {
     play(open);
 }
 
-/// The state, and one `Vec` that takes the actions of each call, as the port's calls share a room. Of the
-/// ways tried this one comes closest to the figures (docs/PERFORMANCE.md); actions that are only
+/// The state, and one `Vec` that takes the actions of each call, as the port's calls share a room. Chosen
+/// because it comes within 2.2 % of the figures (docs/PERFORMANCE.md); actions that are only
 /// counted and dropped cost 16 to 25 instructions a call less.
 struct Original {
     state: FederateCoordinationState,
