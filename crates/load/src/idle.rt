@@ -1,5 +1,5 @@
-// A turn that goes idle: every enclave publishes no tag, then observes as it is probed, parked and rechecked; the idle confirmation has them probed once
-// more, and after the same observations the federate stops, until input for enclave 0 revives it. Each names the current revision. 7 N + 2 calls a turn.
+// A turn that goes idle: every enclave publishes no tag, then observes as it is probed, parked and rechecked, which stops the federate, until an input
+// notice that names all revives it. Each names the current revision. 4 N + 1 calls a turn.
 ghost use Prim.Native.Nat.{_≤_};
 use crate::given::Load;
 use crate::steps;
@@ -14,9 +14,7 @@ use tags::OptionalTag;
 
 const PUBLISHES: u8 = 0;
 
-const CONFIRMS: u8 = 4;
-
-const REVIVES: u8 = 8;
+const REVIVES: u8 = 4;
 
 fn idle_message(enclave: u32) -> SchedulerMessage {
     SchedulerMessage::Publish {
@@ -25,29 +23,20 @@ fn idle_message(enclave: u32) -> SchedulerMessage {
     }
 }
 
-// The stages 1, 2 and 3 come again as 5, 6 and 7.
 fn observation_at(stage: u8) -> Observation {
     match stage {
-        1 | 5 => Observation::Probed,
-        2 | 6 => Observation::Parked,
+        1 => Observation::Probed,
+        2 => Observation::Parked,
         _ => Observation::Rechecked,
     }
 }
 
-fn is_alone(stage: u8) -> bool {
-    if stage == CONFIRMS {
-        return true;
-    }
-    stage == REVIVES
-}
-
 // The calls are made here, on the state itself: handing it to another function would be measured too.
-pub fn play(opened: FederateCoordinationState, load: Load) -> Totals
+pub fn play(opened: FederateCoordinationState, load: Load, enclaves: &[u32]) -> Totals
     requires { ⌜ (load .count ≤ 32) × (load .stride ≤ 4095) × (load .turns ≤ 100000) ⌝ }
 {
     let mut space: [u8; 1904] = [0; 1904];
     let room: &mut [u8] = &mut space;
-    let revived: [u32; 1] = [0];
     let mut called = calls::with_reply(opened, Refusal::Taken, Answer::Silent, 0);
     let mut totals = totals::nothing();
     let mut step = steps::first();
@@ -59,17 +48,15 @@ pub fn play(opened: FederateCoordinationState, load: Load) -> Totals
         let stage = step.stage;
         if stage == PUBLISHES {
             called = federate::handle_scheduler(state, idle_message(enclave), room);
-        } else if stage == CONFIRMS {
-            called = observation::handle_idle_confirmation(state, revision, room);
         } else if stage == REVIVES {
-            called = gate::input_publishing(state, &revived);
+            called = gate::input_publishing(state, enclaves);
         } else {
             let seen = observation_at(stage);
             called = observation::handle_observation(state, enclave, revision, seen, room);
         }
         let reply = called.reply;
         totals = totals::added(totals, reply);
-        step = steps::next(load, step, is_alone(stage), REVIVES);
+        step = steps::next(load, step, stage == REVIVES, REVIVES);
     }
     totals
 }

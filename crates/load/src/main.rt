@@ -16,10 +16,10 @@ use records::LifecyclePolicy;
 use state::FederateCoordinationState;
 use totals::Totals;
 
-// Only a federate that confirms goes through every phase of idleness.
+// A federate that is kept alive is parked without a probe.
 fn policy_of(load: Load) -> LifecyclePolicy {
     if load.idle {
-        return LifecyclePolicy::CoordinatedTermination;
+        return LifecyclePolicy::TerminateWhenIdle;
     }
     LifecyclePolicy::KeepAlive
 }
@@ -38,7 +38,9 @@ fn play(load: Load) -> Totals
 {
     let opened = open(load);
     if load.idle {
-        return idle::play(opened, load);
+        let list = steps::enclaves(load.stride);
+        let count = load.count;
+        return idle::play(opened, load, &list[..count]);
     }
     busy::play(opened, load)
 }

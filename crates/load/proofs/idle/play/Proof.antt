@@ -6,10 +6,10 @@ use Rattle.load.proofs.idle.play.Statement.{statement}
 use Rattle.load.proofs.idle.play.Tie as tie
 
 abbrev Inv-loop : tie.InvT-loop
-Inv-loop load room₀ revived called₀ totals₀ step₀ room called totals step = (step .stage ≤ 8) × (step .place ≤ 31) × (step .enclave ≤ 4095 * step .place)
+Inv-loop load enclaves room₀ called₀ totals₀ step₀ room called totals step = (step .stage ≤ 8) × (step .place ≤ 31) × (step .enclave ≤ 4095 * step .place)
 
 abbrev μ-loop : tie.MeasureT-loop
-μ-loop load room₀ revived called₀ totals₀ step₀ room called totals step = 28800288 - (288 * step .turn + 32 * step .stage + step .place)
+μ-loop load enclaves room₀ called₀ totals₀ step₀ room called totals step = 28800288 - (288 * step .turn + 32 * step .stage + step .place)
 
 slice-aggregate-room : tie.Need-slice-aggregate-room Inv-loop μ-loop
 slice-aggregate-room c = search needs
@@ -32,12 +32,6 @@ idle-message-requires c κs = tt
 handle-scheduler-requires : tie.Need-handle-scheduler-requires Inv-loop μ-loop
 handle-scheduler-requires c κs = tt
 
-handle-idle-confirmation-requires : tie.Need-handle-idle-confirmation-requires Inv-loop μ-loop
-handle-idle-confirmation-requires c κs = tt
-
-slice-aggregate-input-publishing : tie.Need-slice-aggregate-input-publishing Inv-loop μ-loop
-slice-aggregate-input-publishing c = search needs
-
 input-publishing-requires : tie.Need-input-publishing-requires Inv-loop μ-loop
 input-publishing-requires c κs = tt
 
@@ -50,17 +44,14 @@ handle-observation-requires c κs = tt
 added-requires : tie.Need-added-requires Inv-loop μ-loop
 added-requires c κs = tt
 
-is-alone-requires : tie.Need-is-alone-requires Inv-loop μ-loop
-is-alone-requires c κs = tt
-
 next-requires : tie.Need-next-requires Inv-loop μ-loop
 next-requires c κs = search needs
 
 loop-less : tie.Need-loop-less Inv-loop μ-loop
 loop-less c =
-    let test = c .before .before .before .before .before .before .before in
+    let test = c .before .before .before .before .before .before in
     let loop = test .before .before .before in
-    omega (arith, test .if1 .taken, loop .loop .inv, loop .before .before .before .before .before .pre, c .next .ensures)
+    omega (arith, test .if1 .taken, loop .loop .inv, loop .before .before .before .before .before .before .pre, c .next .ensures)
 
 loop-again : tie.Need-loop-again Inv-loop μ-loop
 loop-again c = search needs
@@ -81,13 +72,10 @@ play-spec =
     loop-holds
     idle-message-requires
     handle-scheduler-requires
-    handle-idle-confirmation-requires
-    slice-aggregate-input-publishing
     input-publishing-requires
     observation-at-requires
     handle-observation-requires
     added-requires
-    is-alone-requires
     next-requires
     loop-less
     loop-again
