@@ -182,31 +182,10 @@ pub fn handle_acquisition(
 fn unless_refused(state: FederateCoordinationState, room: usize, later: Refusal) -> Called
     ensures { λ r. ⌜ r ≡ unlessRefused state room later ⌝ }
 {
-    let count = state.count;
-    let coordination = state.coordination;
-    let completion = state.completion;
-    let gate = state.gate;
-    let horizon = state.grant_horizon;
-    if !soundness::is_sound(
-        &state.enclaves,
-        &state.observation,
-        &state.acknowledged,
-        &state.completion_observed,
-        &state.seconds,
-        &state.nanoseconds,
-        &state.microsteps,
-        count,
-        coordination,
-        completion,
-        gate,
-        horizon,
-        state.failed,
-        state.first_failure,
-        state.lifecycle,
-    ) {
+    if !soundness::is_sound(state) {
         return calls::with_reply(state, Refusal::UnsoundState, Answer::Silent, 0);
     }
-    let refusal = calls::room_first(room, count, later);
+    let refusal = calls::room_first(room, state.count, later);
     calls::with_reply(state, refusal, Answer::Silent, 0)
 }
 

@@ -22,7 +22,7 @@ use Rattle.state.specs.Parts.{Sized}
 use Rattle.state.specs.Decides.{Good}
 use Rattle.state.proofs.Neat.{count-bounds}
 use Rattle.state.proofs.Put.{Beyond, beyond-refl, holds-is-put}
-use Rattle.soundness.specs.Lent.{Lent, LentColumns}
+use Rattle.soundness.specs.Lent.{LentColumns}
 use Rattle.soundness.specs.Sound.{soundPublication, soundFlags, soundInputs, soundAcquisition, soundRest, soundSmall}
 use Rattle.soundness.proofs.Sound.{small-by-leaves, columns-of}
 use Rattle.calls.specs.Called.{refusalOf, Promised, replied}
@@ -52,27 +52,6 @@ sized-by s a b c d e f g h = record {
   microsteps = lasting (s .microsteps) 96 h;
 }
 
--- a state is lent with its own columns and parts
-pub whole : (s : Held) → Lent s (s .enclaves) (s .observation) (s .acknowledged) (s .«completion_observed») (s .seconds) (s .nanoseconds) (s .microsteps)
-    (s .count) (s .coordination) (s .completion) (s .gate) (s .«grant_horizon») (s .failed) (s .«first_failure») (s .lifecycle)
-whole s = record {
-  enclaves = refl;
-  observation = refl;
-  acknowledged = refl;
-  observed = refl;
-  seconds = refl;
-  nanoseconds = refl;
-  microsteps = refl;
-  count = refl;
-  coordination = refl;
-  completion = refl;
-  gate = refl;
-  horizon = refl;
-  failed = refl;
-  failure = refl;
-  lifecycle = refl;
-}
-
 -- what 27 asks of it, by its small parts' tests, of coordination and completion and then of the rest, and by the columns' own
 pub sound-by-leaves : (s : Held) {flags publication frontiers inputs both horizons acquisition rest small r : Bool}
     → let c = s .coordination in let k = s .completion in let g = s .gate in
@@ -89,7 +68,7 @@ pub sound-by-leaves : (s : Held) {flags publication frontiers inputs both horizo
     → small ≡ soundSmall s → r ≡ (represents s && isSound (view s)))
     → r ≡ (represents s && isSound (view s))
 sound-by-leaves s a b d i p j q r z by-columns =
-    by-columns (columns-of (whole s))
+    by-columns (columns-of s)
     (small-by-leaves (s .coordination) (s .completion) (s .gate) (s .«grant_horizon») (s .failed) (s .«first_failure») (s .lifecycle) a b d i j q r p z)
 
 -- ---- a state that passes 27

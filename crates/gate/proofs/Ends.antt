@@ -17,7 +17,7 @@ use Rattle.rules.specs.Gate.{isLate, isCompleted}
 use Rattle.rules.specs.Calls.{facts, says, ownStep, takeStep, isSound, roomFor, allProper, knowsAll, isSpent, refusedAnswer}
 use Rattle.state.specs.declared.FederateCoordinationState.{FederateCoordinationState as Held}
 use Rattle.state.specs.declared.Gate.{Gate}
-use Rattle.state.specs.Cells.{optionalOf}
+use Rattle.state.specs.Cells.{optionalOf, cellOf}
 use Rattle.state.specs.View.{rowsOf, view, put, represents}
 use Rattle.state.specs.Parts.{withGate}
 use Rattle.state.proofs.Rows.{known, neat-cell, optional-cell, rows-gate}
@@ -29,7 +29,6 @@ use Rattle.calls.specs.Called.{refusalOf, Promised, lent, replied}
 use Rattle.calls.proofs.Refusals.{Passes, passes, refusal-27, refusal-7, refusal-3, refusal-0, refused, taken}
 use Rattle.calls.proofs.Standing.{Standing, promised-taken}
 use Rattle.gate.specs.Replies.{Replies, Admits, Finds}
-use Rattle.gate.specs.Parts.{cappedOf}
 use Rattle.state.proofs.Seats.{any-seated, any-unknown}
 
 -- ---- the refusals
@@ -79,14 +78,18 @@ refused-no false = refl
 
 -- ---- set_input_horizon
 
+-- "setting the input horizon (it only stores)"
+abbrev capped : Gate → Tag → Gate
+capped g t = record { «input_horizon» = t; «stored_revision» = g .«stored_revision»; «stored_granted» = g .«stored_granted»; granted = g .granted }
+
 module _ (s : Held) (h : OptionalTag) (st : Standing s) (proper : properIfPresent h ≡ true) where
   is-proper : T (properIfPresent h)
   is-proper = subst T (sym proper) tt
 
-  step-capped : takeStep (horizon h) (view s) ≡ quiet (view (withGate (cappedOf (s .gate) h) s))
+  step-capped : takeStep (horizon h) (view s) ≡ quiet (view (withGate (capped (s .gate) (cellOf h)) s))
   unfolding takeStep ownStep
   step-capped = λ k. quiet (record {
-    participants = sym (rows-gate s (cappedOf (s .gate) h) refl) k;
+    participants = sym (rows-gate s (capped (s .gate) (cellOf h)) refl) k;
     lifecycle = view s .lifecycle;
     phase = view s .phase;
     revision = view s .revision;
@@ -102,17 +105,17 @@ module _ (s : Held) (h : OptionalTag) (st : Standing s) (proper : properIfPresen
     inputAcquisition = view s .inputAcquisition;
   })
 
-  capped-neat : T (represents (withGate (cappedOf (s .gate) h) s))
+  capped-neat : T (represents (withGate (capped (s .gate) (cellOf h)) s))
   capped-neat =
       let w = gate-parts (s .gate) (neat-gate s (st .good .neat)) in
-      neat-with-gate s (st .good .neat) (cappedOf (s .gate) h)
-      (gate-whole (cappedOf (s .gate) h) (record { inputHorizon = neat-cell h is-proper; granted = w .granted; stored = w .stored; revision = w .revision }))
+      neat-with-gate s (st .good .neat) (capped (s .gate) (cellOf h))
+      (gate-whole (capped (s .gate) (cellOf h)) (record { inputHorizon = neat-cell h is-proper; granted = w .granted; stored = w .stored; revision = w .revision }))
 
-  pub ends-capped : (g : Gate) (r : Called) → g ≡ cappedOf (s .gate) h → r ≡ replied (withGate g s) Taken Silent 0 → Promised (lent 0 (horizon h)) s r
-  ends-capped g r q e =
-      promised-taken (lent 0 (horizon h)) s st (asks-0 (horizon h) h (asks-horizon h) s (st .passing) proper) Silent refl (withGate (cappedOf (s .gate) h) s) []
-      (beyond-columns s (withGate (cappedOf (s .gate) h) s) refl refl refl refl refl refl refl refl refl) capped-neat step-capped refl
-      (e ∙ ap (λ x. replied (withGate x s) Taken Silent 0) q)
+  pub ends-capped : (t : Tag) (r : Called) → t ≡ cellOf h → r ≡ replied (withGate (capped (s .gate) t) s) Taken Silent 0 → Promised (lent 0 (horizon h)) s r
+  ends-capped t r q e =
+      promised-taken (lent 0 (horizon h)) s st (asks-0 (horizon h) h (asks-horizon h) s (st .passing) proper) Silent refl (withGate (capped (s .gate) (cellOf h)) s) []
+      (beyond-columns s (withGate (capped (s .gate) (cellOf h)) s) refl refl refl refl refl refl refl refl refl) capped-neat step-capped refl
+      (e ∙ ap (λ x. replied (withGate (capped (s .gate) x) s) Taken Silent 0) q)
 
 -- ---- what is promised of a question that hands no state back
 

@@ -21,7 +21,7 @@ use Rattle.state.specs.declared.Coordination.{Coordination}
 use Rattle.state.specs.declared.Completion.{Completion}
 use Rattle.state.specs.declared.Gate.{Gate}
 use Rattle.state.specs.Walk.{tab}
-use Rattle.state.specs.Cells.{optionalOf, numberIf, observationOf}
+use Rattle.state.specs.Cells.{absent, optionalOf, numberIf, observationOf}
 use Rattle.state.specs.View.{tagAt, rowAt, rowsOf, view, represents}
 use Rattle.state.specs.Parts.{cleared}
 use Rattle.state.specs.Decides.{Good}
@@ -33,7 +33,7 @@ use Rattle.calls.specs.declared.Called.{Called}
 use Rattle.calls.specs.Called.{Promised, lent, replied}
 use Rattle.publication.specs.Revise.{revisedOf, unprobedOf}
 use Rattle.publication.proofs.Neat.{neat-revised, neat-unprobed}
-use Rattle.gate.specs.Parts.{droppedOf, allFound, staysAt, unlisted}
+use Rattle.gate.specs.Parts.{allFound, staysAt, unlisted}
 use Rattle.gate.proofs.Seats.{knows-found}
 use Rattle.calls.proofs.Standing.{Standing, promised-refused, promised-taken}
 use Rattle.gate.proofs.Ends.{input-3, input-0}
@@ -59,9 +59,13 @@ storing s published observation coordination completion gate = record {
   lifecycle = s .lifecycle;
 }
 
+-- "drops the stored acquisition and all granted tags"
+abbrev dropped : Gate → Gate
+dropped g = record { «input_horizon» = g .«input_horizon»; «stored_revision» = 0; «stored_granted» = absent; granted = absent }
+
 abbrev noticedState : Held → List ℕ → Held
 noticedState s es =
-    storing s (unlisted (s .enclaves) es (s .published) (s .count)) (cleared (s .count) (s .observation)) (revisedOf (s .coordination)) (unprobedOf (s .completion)) (droppedOf (s .gate))
+    storing s (unlisted (s .enclaves) es (s .published) (s .count)) (cleared (s .count) (s .observation)) (revisedOf (s .coordination)) (unprobedOf (s .completion)) (dropped (s .gate))
 
 -- ---- the flags that stay
 
@@ -138,7 +142,7 @@ module _ (s : Held) (es : List ℕ) (g : Good s) (few : s .count ≤ 32) where
         });
         coordination = neat-revised (s .coordination);
         completion = neat-unprobed (s .completion) (v .completion);
-        gate = gate-whole (droppedOf (s .gate)) (record { inputHorizon = w .inputHorizon; granted = neat-cell NoTag tt; stored = neat-cell NoTag tt; revision = tt });
+        gate = gate-whole (dropped (s .gate)) (record { inputHorizon = w .inputHorizon; granted = neat-cell NoTag tt; stored = neat-cell NoTag tt; revision = tt });
         horizon = v .horizon;
         failure = v .failure;
         policy = v .policy;
@@ -168,7 +172,7 @@ module _ (s : Held) (es : List ℕ) (st : Standing s) {known : Bool} (q : known 
 
   pub ends-noticed : (published : List Bool) (observation : List ℕ) (c : Coordination) (k : Completion) (g : Gate) (r : Called) → not known ≡ false
       → published ≡ unlisted (s .enclaves) es (s .published) (s .count) → observation ≡ cleared (s .count) (s .observation) → c ≡ revisedOf (s .coordination)
-      → k ≡ unprobedOf (s .completion) → g ≡ droppedOf (s .gate) → r ≡ replied (storing s published observation c k g) Taken Silent 0 → Promised (lent 0 (input es)) s r
+      → k ≡ unprobedOf (s .completion) → g ≡ dropped (s .gate) → r ≡ replied (storing s published observation c k g) Taken Silent 0 → Promised (lent 0 (input es)) s r
   ends-noticed published observation c k g r h p o x y z e =
       let few = st .few in
       promised-taken (lent 0 (input es)) s st (input-0 es s (st .passing) (knowing ∙ not-false known h)) Silent refl (noticedState s es) []

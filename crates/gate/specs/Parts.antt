@@ -1,4 +1,4 @@
--- Document 01, "Gate", on the small parts and on columns: the gate, the indices that are participants, the participants that stay published, and the
+-- Document 01, "Gate", on the small parts and on columns: the indices that are participants, the participants that stay published, and the
 -- tests of `begin_tag`. Assumes nothing.
 use mathlib.Core.Bool.{Bool, true, false, not, _&&_}
 use mathlib.Core.List.{List, [], _∷_, _++_}
@@ -6,19 +6,11 @@ use Prim.Native.Nat.{ℕ}
 use lib.Dec.{eqb, ltb}
 use lib.ListN.{getD, drop}
 use Rattle.tags.specs.Tags.{_≤ₜ_, within}
-use Rattle.rules.specs.Model.{Tag, OptionalTag}
+use Rattle.rules.specs.Model.{Tag}
 use Rattle.rules.specs.Walk.{among}
 use Rattle.state.specs.declared.Gate.{Gate}
 use Rattle.state.specs.Walk.{tab, placeFrom}
-use Rattle.state.specs.Cells.{absent, optionalOf, cellOf}
-
--- "setting the input horizon (it only stores)"
-abbrev pub cappedOf : Gate → OptionalTag → Gate
-cappedOf g h = record { «input_horizon» = cellOf h; «stored_revision» = g .«stored_revision»; «stored_granted» = g .«stored_granted»; granted = g .granted }
-
--- "drops the stored acquisition and all granted tags"
-abbrev pub droppedOf : Gate → Gate
-droppedOf g = record { «input_horizon» = g .«input_horizon»; «stored_revision» = 0; «stored_granted» = absent; granted = absent }
+use Rattle.state.specs.Cells.{optionalOf}
 
 -- each of these indices stands among the first n
 abbrev pub allFound : List ℕ → ℕ → List ℕ → Bool

@@ -11,7 +11,7 @@ ghost use Rattle.rules.specs.Calls.{says};
 ghost use Rattle.state.specs.Cells.{optionalOf};
 ghost use Rattle.calls.specs.Called.{Promised, lent};
 ghost use Rattle.gate.specs.Replies.{Replies, Looks};
-ghost use Rattle.gate.specs.Parts.{cappedOf, droppedOf, allFound, unlisted, permits};
+ghost use Rattle.gate.specs.Parts.{allFound, unlisted, permits};
 use calls::Called;
 use calls::Reply;
 use records::Answer;
@@ -44,46 +44,20 @@ fn is_within_cell(tag: Tag, cell: Tag) -> bool
     tags::is_within(tag, held)
 }
 
-fn with_input_horizon(gate: Gate, horizon: OptionalTag) -> Gate
-    ensures { λ r. ⌜ r ≡ cappedOf gate horizon ⌝ }
-{
-    let mut capped = gate;
-    let cell = state::cell_of(horizon);
-    capped.input_horizon = cell;
-    capped
-}
-
 // Stores the input horizon; changes nothing else.
 pub fn set_input_horizon(mut state: FederateCoordinationState, horizon: OptionalTag) -> Called
     ensures { λ r. ⌜ Promised (lent 0 (capping horizon)) state r ⌝ }
 {
-    let coordination = state.coordination;
-    let completion = state.completion;
-    let gate = state.gate;
-    let grant_horizon = state.grant_horizon;
-    if !soundness::is_sound(
-        &state.enclaves,
-        &state.observation,
-        &state.acknowledged,
-        &state.completion_observed,
-        &state.seconds,
-        &state.nanoseconds,
-        &state.microsteps,
-        state.count,
-        coordination,
-        completion,
-        gate,
-        grant_horizon,
-        state.failed,
-        state.first_failure,
-        state.lifecycle,
-    ) {
+    if !soundness::is_sound(state) {
         return calls::with_reply(state, Refusal::UnsoundState, Answer::Silent, 0);
     }
     if !tags::proper_if_present(horizon) {
         return calls::with_reply(state, Refusal::ImproperTag, Answer::Silent, 0);
     }
-    state.gate = with_input_horizon(gate, horizon);
+    let mut gate = state.gate;
+    let cell = state::cell_of(horizon);
+    gate.input_horizon = cell;
+    state.gate = gate;
     calls::with_reply(state, Refusal::Taken, Answer::Silent, 0)
 }
 
@@ -107,26 +81,8 @@ pub fn begin_tag(mut state: FederateCoordinationState, enclave: EnclaveIndex, ta
 {
     let count = state.count;
     let coordination = state.coordination;
-    let completion = state.completion;
     let gate = state.gate;
-    let grant_horizon = state.grant_horizon;
-    if !soundness::is_sound(
-        &state.enclaves,
-        &state.observation,
-        &state.acknowledged,
-        &state.completion_observed,
-        &state.seconds,
-        &state.nanoseconds,
-        &state.microsteps,
-        count,
-        coordination,
-        completion,
-        gate,
-        grant_horizon,
-        state.failed,
-        state.first_failure,
-        state.lifecycle,
-    ) {
+    if !soundness::is_sound(state) {
         return calls::with_reply(state, Refusal::UnsoundState, Answer::No, 0);
     }
     if !tags::is_proper(tag) {
@@ -157,27 +113,7 @@ fn look(state: FederateCoordinationState, enclave: EnclaveIndex, tag: Tag) -> Lo
     ensures { λ r. ⌜ Looks state enclave tag r ⌝ }
 {
     let count = state.count;
-    let coordination = state.coordination;
-    let completion = state.completion;
-    let gate = state.gate;
-    let grant_horizon = state.grant_horizon;
-    if !soundness::is_sound(
-        &state.enclaves,
-        &state.observation,
-        &state.acknowledged,
-        &state.completion_observed,
-        &state.seconds,
-        &state.nanoseconds,
-        &state.microsteps,
-        count,
-        coordination,
-        completion,
-        gate,
-        grant_horizon,
-        state.failed,
-        state.first_failure,
-        state.lifecycle,
-    ) {
+    if !soundness::is_sound(state) {
         return Looked::Unsound;
     }
     if !tags::is_proper(tag) {
@@ -250,17 +186,6 @@ pub fn input_completed(state: FederateCoordinationState, enclave: EnclaveIndex, 
     }
 }
 
-fn without_grants(gate: Gate) -> Gate
-    ensures { λ r. ⌜ r ≡ droppedOf gate ⌝ }
-{
-    let mut dropped = gate;
-    let none = ABSENT;
-    dropped.stored_revision = 0;
-    dropped.stored_granted = none;
-    dropped.granted = none;
-    dropped
-}
-
 // Whether each of these enclaves is among the first `count`.
 fn are_known(enclaves: &[u32; 32], count: usize, affected: &[u32]) -> bool
     requires { ⌜ count ≤ 32 ⌝ }
@@ -325,25 +250,8 @@ pub fn input_publishing(mut state: FederateCoordinationState, affected: &[u32]) 
     let count = state.count;
     let coordination = state.coordination;
     let completion = state.completion;
-    let gate = state.gate;
-    let grant_horizon = state.grant_horizon;
-    if !soundness::is_sound(
-        &state.enclaves,
-        &state.observation,
-        &state.acknowledged,
-        &state.completion_observed,
-        &state.seconds,
-        &state.nanoseconds,
-        &state.microsteps,
-        count,
-        coordination,
-        completion,
-        gate,
-        grant_horizon,
-        state.failed,
-        state.first_failure,
-        state.lifecycle,
-    ) {
+    let mut gate = state.gate;
+    if !soundness::is_sound(state) {
         return calls::with_reply(state, Refusal::UnsoundState, Answer::Silent, 0);
     }
     if !are_known(&state.enclaves, count, affected) {
@@ -356,6 +264,10 @@ pub fn input_publishing(mut state: FederateCoordinationState, affected: &[u32]) 
     state.observation = observation;
     state.coordination = publication::revised(coordination);
     state.completion = publication::unprobed(completion);
-    state.gate = without_grants(gate);
+    let none = ABSENT;
+    gate.stored_revision = 0;
+    gate.stored_granted = none;
+    gate.granted = none;
+    state.gate = gate;
     calls::with_reply(state, Refusal::Taken, Answer::Silent, 0)
 }

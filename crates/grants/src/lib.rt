@@ -12,7 +12,7 @@ ghost use Rattle.emission.specs.Written.{Adds};
 ghost use Rattle.state.specs.declared.FederateCoordinationState.{FederateCoordinationState as Held};
 ghost use Rattle.state.specs.Cells.{optionalOf, storedOf};
 ghost use Rattle.state.specs.Decides.{Good};
-ghost use Rattle.grants.specs.Acquire.{storing, granting, grantsOf, Unpublished, Acquires};
+ghost use Rattle.grants.specs.Acquire.{storing, grantsOf, Unpublished, Acquires};
 use state::Coordination;
 use state::Gate;
 use tags::Tag;
@@ -50,15 +50,6 @@ fn is_newer(g: Gate, revision: u64, tag: Tag) -> bool
     !tags::at_or_below(tag, stored)
 }
 
-fn storing(g: Gate, revision: u64, tag: Tag) -> Gate
-    ensures { λ r. ⌜ r ≡ storing revision tag g ⌝ }
-{
-    let mut kept = g;
-    kept.stored_revision = revision;
-    kept.stored_granted = tag;
-    kept
-}
-
 // The acquisition is kept as it came, for the input horizon may move.
 fn stored(g: Gate, revision: u64, tag: Tag) -> Gate
     ensures { λ r. ⌜ r ≡ cond (isPresent (optionalOf (g .«input_horizon»)) && isNewer revision tag (storedOf (g .«stored_revision») (g .«stored_granted»))) (storing revision tag g) g ⌝ }
@@ -68,7 +59,10 @@ fn stored(g: Gate, revision: u64, tag: Tag) -> Gate
         return g;
     }
     if is_newer(g, revision, tag) {
-        return storing(g, revision, tag);
+        let mut kept = g;
+        kept.stored_revision = revision;
+        kept.stored_granted = tag;
+        return kept;
     }
     g
 }
@@ -109,14 +103,6 @@ fn brings_nothing(c: Coordination, horizon: Tag, tag: Tag) -> bool
     is_not_above(horizon, tag)
 }
 
-fn granting(g: Gate, tag: Tag) -> Gate
-    ensures { λ r. ⌜ r ≡ granting tag g ⌝ }
-{
-    let mut open = g;
-    open.granted = tag;
-    open
-}
-
 // What an acquisition of this revision and tag decides, the flags and the records aside.
 pub fn acquire(
     coordination: Coordination,
@@ -150,7 +136,8 @@ pub fn acquire(
     }
     let further = raised(horizon, reach);
     let settled = state::without_pending(coordination, coordination.phase);
-    let open = granting(kept, reach);
+    let mut open = kept;
+    open.granted = reach;
     Acquired {
         grants: true,
         tag: reach,

@@ -258,26 +258,7 @@ pub fn handle_observation(
 {
     let count = state.count;
     let coordination = state.coordination;
-    let completion = state.completion;
-    let gate = state.gate;
-    let grant_horizon = state.grant_horizon;
-    if !soundness::is_sound(
-        &state.enclaves,
-        &state.observation,
-        &state.acknowledged,
-        &state.completion_observed,
-        &state.seconds,
-        &state.nanoseconds,
-        &state.microsteps,
-        count,
-        coordination,
-        completion,
-        gate,
-        grant_horizon,
-        state.failed,
-        state.first_failure,
-        state.lifecycle,
-    ) {
+    if !soundness::is_sound(state) {
         return calls::with_reply(state, Refusal::UnsoundState, Answer::Silent, 0);
     }
     if room.len() < 56 * (count + 2) {
@@ -307,9 +288,7 @@ pub fn handle_observation(
     if !all_observed(&state.observation, count, cell) {
         return calls::with_reply(state, Refusal::Taken, Answer::Silent, 0);
     }
-    let mut cells = state.observation;
-    table::clear(&mut cells, count);
-    state.observation = cells;
+    table::clear(&mut state.observation, count);
     let moved = agreed(coordination, state.lifecycle, observation);
     let next = moved.coordination;
     state.coordination = next;
@@ -329,26 +308,7 @@ pub fn handle_idle_confirmation(
 {
     let count = state.count;
     let coordination = state.coordination;
-    let completion = state.completion;
-    let gate = state.gate;
-    let grant_horizon = state.grant_horizon;
-    if !soundness::is_sound(
-        &state.enclaves,
-        &state.observation,
-        &state.acknowledged,
-        &state.completion_observed,
-        &state.seconds,
-        &state.nanoseconds,
-        &state.microsteps,
-        count,
-        coordination,
-        completion,
-        gate,
-        grant_horizon,
-        state.failed,
-        state.first_failure,
-        state.lifecycle,
-    ) {
+    if !soundness::is_sound(state) {
         return calls::with_reply(state, Refusal::UnsoundState, Answer::Silent, 0);
     }
     if room.len() < 56 * (count + 2) {
@@ -369,26 +329,7 @@ pub fn stop(mut state: FederateCoordinationState, room: &mut [u8]) -> Called
 {
     let count = state.count;
     let coordination = state.coordination;
-    let completion = state.completion;
-    let gate = state.gate;
-    let grant_horizon = state.grant_horizon;
-    if !soundness::is_sound(
-        &state.enclaves,
-        &state.observation,
-        &state.acknowledged,
-        &state.completion_observed,
-        &state.seconds,
-        &state.nanoseconds,
-        &state.microsteps,
-        count,
-        coordination,
-        completion,
-        gate,
-        grant_horizon,
-        state.failed,
-        state.first_failure,
-        state.lifecycle,
-    ) {
+    if !soundness::is_sound(state) {
         return calls::with_reply(state, Refusal::UnsoundState, Answer::Silent, 0);
     }
     if room.len() < 56 * (count + 2) {

@@ -11,7 +11,7 @@ ghost use Rattle.rules.specs.Walk.{isStopped};
 ghost use Rattle.rules.specs.Acquisition.{isPending};
 ghost use Rattle.rules.specs.Queries.{isSettled, idleConfirmationRevision, candidateOf};
 ghost use Rattle.state.specs.Cells.{optionalOf, enclaveIf, phaseOf, publicationIf};
-ghost use Rattle.queries.specs.Asked.{passes, answerIf, askHeld, Answers, candidateAs};
+ghost use Rattle.queries.specs.Asked.{answerIf, askHeld, Answers, candidateAs};
 ghost use Rattle.queries.specs.declared.FoundCandidate.the-variants.{Unknown};
 use records::CoordinationPhase;
 use records::FederatePublication;
@@ -177,34 +177,8 @@ fn publication_answer(sound: bool, answer: OptionalPublication) -> PublicationAn
     }
 }
 
-// Whether a call would take this state.
-fn is_sound(state: FederateCoordinationState) -> bool
-    ensures { λ r. ⌜ r ≡ passes state ⌝ }
-{
-    let coordination = state.coordination;
-    let completion = state.completion;
-    let gate = state.gate;
-    let grant_horizon = state.grant_horizon;
-    soundness::is_sound(
-        &state.enclaves,
-        &state.observation,
-        &state.acknowledged,
-        &state.completion_observed,
-        &state.seconds,
-        &state.nanoseconds,
-        &state.microsteps,
-        state.count,
-        coordination,
-        completion,
-        gate,
-        grant_horizon,
-        state.failed,
-        state.first_failure,
-        state.lifecycle,
-    )
-}
-
-fn phase_of(number: u8) -> CoordinationPhase
+// The phase of its number.
+pub fn phase_of(number: u8) -> CoordinationPhase
     ensures { λ r. ⌜ r ≡ phaseOf number ⌝ }
 {
     match number {
@@ -254,7 +228,8 @@ fn publication_if(
     OptionalPublication::NonePending
 }
 
-fn no_publication_and_no_probe(c: Coordination, k: Completion) -> bool
+// Whether neither is out.
+pub fn no_publication_and_no_probe(c: Coordination, k: Completion) -> bool
     ensures { λ r. ⌜ r ≡ (not (isPending (publicationIf (c .pending) (c .«pending_revision») (c .«pending_next_event») (c .«pending_grant_horizon»))) && not (isPresent (optionalOf (k .«completion_probe»)))) ⌝ }
 {
     if c.pending {
@@ -277,7 +252,7 @@ fn awaited_revision(phase: u8, revision: u64) -> OptionalNumber
 pub fn revision(state: FederateCoordinationState) -> NumberAnswer
     ensures { λ r. ⌜ Answers (askHeld 0 (λ s. s .revision) state) (r .refusal) (r .answer) ⌝ }
 {
-    let sound = is_sound(state);
+    let sound = soundness::is_sound(state);
     number_answer(sound, state.coordination.revision)
 }
 
@@ -285,7 +260,7 @@ pub fn revision(state: FederateCoordinationState) -> NumberAnswer
 pub fn generation(state: FederateCoordinationState) -> NumberAnswer
     ensures { λ r. ⌜ Answers (askHeld 0 (λ s. s .completionGeneration) state) (r .refusal) (r .answer) ⌝ }
 {
-    let sound = is_sound(state);
+    let sound = soundness::is_sound(state);
     number_answer(sound, state.completion.completion_generation)
 }
 
@@ -293,7 +268,7 @@ pub fn generation(state: FederateCoordinationState) -> NumberAnswer
 pub fn phase(state: FederateCoordinationState) -> PhaseAnswer
     ensures { λ r. ⌜ Answers (askHeld Active (λ s. s .phase) state) (r .refusal) (r .answer) ⌝ }
 {
-    let sound = is_sound(state);
+    let sound = soundness::is_sound(state);
     let phase = phase_of(state.coordination.phase);
     phase_answer(sound, phase)
 }
@@ -302,7 +277,7 @@ pub fn phase(state: FederateCoordinationState) -> PhaseAnswer
 pub fn is_stopped(state: FederateCoordinationState) -> BoolAnswer
     ensures { λ r. ⌜ Answers (askHeld false isStopped state) (r .refusal) (r .answer) ⌝ }
 {
-    let sound = is_sound(state);
+    let sound = soundness::is_sound(state);
     let stopped = is_phase(state.coordination.phase, 6);
     bool_answer(sound, stopped)
 }
@@ -311,7 +286,7 @@ pub fn is_stopped(state: FederateCoordinationState) -> BoolAnswer
 pub fn is_settled(state: FederateCoordinationState) -> BoolAnswer
     ensures { λ r. ⌜ Answers (askHeld false isSettled state) (r .refusal) (r .answer) ⌝ }
 {
-    let sound = is_sound(state);
+    let sound = soundness::is_sound(state);
     let coordination = state.coordination;
     let completion = state.completion;
     let settled = no_publication_and_no_probe(coordination, completion);
@@ -322,7 +297,7 @@ pub fn is_settled(state: FederateCoordinationState) -> BoolAnswer
 pub fn first_failure(state: FederateCoordinationState) -> EnclaveAnswer
     ensures { λ r. ⌜ Answers (askHeld NoEnclave (λ s. s .firstFailure) state) (r .refusal) (r .answer) ⌝ }
 {
-    let sound = is_sound(state);
+    let sound = soundness::is_sound(state);
     let failure = enclave_if(state.failed, state.first_failure);
     enclave_answer(sound, failure)
 }
@@ -331,7 +306,7 @@ pub fn first_failure(state: FederateCoordinationState) -> EnclaveAnswer
 pub fn grant_horizon(state: FederateCoordinationState) -> TagAnswer
     ensures { λ r. ⌜ Answers (askHeld NoTag (λ s. s .grantHorizon) state) (r .refusal) (r .answer) ⌝ }
 {
-    let sound = is_sound(state);
+    let sound = soundness::is_sound(state);
     let cell = state.grant_horizon;
     let horizon = state::optional_of(cell);
     tag_answer(sound, horizon)
@@ -341,7 +316,7 @@ pub fn grant_horizon(state: FederateCoordinationState) -> TagAnswer
 pub fn completed_frontier(state: FederateCoordinationState) -> TagAnswer
     ensures { λ r. ⌜ Answers (askHeld NoTag (λ s. s .completedFrontier) state) (r .refusal) (r .answer) ⌝ }
 {
-    let sound = is_sound(state);
+    let sound = soundness::is_sound(state);
     let completion = state.completion;
     let cell = completion.completed_frontier;
     let frontier = state::optional_of(cell);
@@ -352,7 +327,7 @@ pub fn completed_frontier(state: FederateCoordinationState) -> TagAnswer
 pub fn pending_publication(state: FederateCoordinationState) -> PublicationAnswer
     ensures { λ r. ⌜ Answers (askHeld NonePending (λ s. s .pendingPublication) state) (r .refusal) (r .answer) ⌝ }
 {
-    let sound = is_sound(state);
+    let sound = soundness::is_sound(state);
     let c = state.coordination;
     let next_event = c.pending_next_event;
     let grant_horizon = c.pending_grant_horizon;
@@ -364,7 +339,7 @@ pub fn pending_publication(state: FederateCoordinationState) -> PublicationAnswe
 pub fn idle_confirmation_revision(state: FederateCoordinationState) -> RevisionAnswer
     ensures { λ r. ⌜ Answers (askHeld NoNumber idleConfirmationRevision state) (r .refusal) (r .answer) ⌝ }
 {
-    let sound = is_sound(state);
+    let sound = soundness::is_sound(state);
     let c = state.coordination;
     let awaited = awaited_revision(c.phase, c.revision);
     revision_answer(sound, awaited)
@@ -374,7 +349,7 @@ pub fn idle_confirmation_revision(state: FederateCoordinationState) -> RevisionA
 pub fn candidate(state: FederateCoordinationState, enclave: u32) -> CandidateAnswer
     ensures { λ r. ⌜ Answers (askHeld Unknown (λ s. candidateAs (candidateOf enclave s)) state) (r .refusal) (r .answer) ⌝ }
 {
-    if !is_sound(state) {
+    if !soundness::is_sound(state) {
         return CandidateAnswer {
             refusal: Refusal::UnsoundState,
             answer: FoundCandidate::Unknown,

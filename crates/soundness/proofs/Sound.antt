@@ -21,7 +21,7 @@ use Rattle.state.specs.Walk.{tab, allOf}
 use Rattle.state.specs.Cells.{absent, isAbsent, optionalOf, isNeat, isCell, isZeroUnless, publicationIf, inputsOf, storedOf}
 use Rattle.state.specs.View.{tagAt, rowAt, rowsOf, view, neatAt, neatCoordination, neatCompletion, neatGate, represents}
 use Rattle.state.proofs.Rows.{all-rows, all-same, length-rows, cell-split}
-use Rattle.soundness.specs.Lent.{Lent, LentColumns}
+use Rattle.soundness.specs.Lent.{LentColumns}
 use Rattle.soundness.specs.Sound.{rises, soundAt, soundPublication, soundFlags, soundCoordination, soundInputs, soundCompletion, soundAcquisition, soundGate, soundParts, soundRest, soundSmall, soundPlaces}
 use Rattle.soundness.proofs.Cells.{Told, mark, hidden, proper, improper, told}
 
@@ -234,12 +234,10 @@ sound-of {s} p =
 -- ---- the small parts' tests, as callers join them
 
 -- by part
-pub small-by : {s : Held} {es os : List ℕ} {bs : List Bool} {cs : List ℕ} {ss ns : List ℤ} {ms : List ℕ} {n : ℕ} {c : Coordination} {k : Completion} {g : Gate}
-    {h : Tag} {f : Bool} {e l : ℕ} {a b d r x : Bool}
-    → Lent s es os bs cs ss ns ms n c k g h f e l → a ≡ soundCoordination c → b ≡ soundCompletion k → d ≡ soundGate g → r ≡ soundRest h f e l
-    → x ≡ (a && b && d && r) → x ≡ soundSmall s
-small-by p t u v w q =
-    rw (q, t, u, v, w, ← p .coordination, ← p .completion, ← p .gate, ← p .horizon, ← p .failed, ← p .failure, ← p .lifecycle) (simp and-assoc)
+pub small-by : (s : Held) {a b d r x : Bool}
+    → a ≡ soundCoordination (s .coordination) → b ≡ soundCompletion (s .completion) → d ≡ soundGate (s .gate)
+    → r ≡ soundRest (s .«grant_horizon») (s .failed) (s .«first_failure») (s .lifecycle) → x ≡ (a && b && d && r) → x ≡ soundSmall s
+small-by s t u v w q = rw (q, t, u, v, w) (simp and-assoc)
 
 -- by leaf
 module _ (c : Coordination) (k : Completion) (g : Gate) (h : Tag) (f : Bool) (e l : ℕ) where
@@ -255,17 +253,16 @@ module _ (c : Coordination) (k : Completion) (g : Gate) (h : Tag) (f : Bool) (e 
       → y ≡ (soundParts c k g && soundRest h f e l)
   small-by-leaves a b d i j q r p z = rw (z, p, a, b, d, i, j, q, r) (simp and-assoc)
 
--- the columns of a state that is lent
-pub columns-of : {s : Held} {es os : List ℕ} {bs : List Bool} {cs : List ℕ} {ss ns : List ℤ} {ms : List ℕ} {n : ℕ} {c : Coordination} {k : Completion} {g : Gate}
-    {h : Tag} {f : Bool} {e l : ℕ}
-    → Lent s es os bs cs ss ns ms n c k g h f e l → LentColumns s es os bs cs ss ns ms n
-columns-of p = record {
-  enclaves = p .enclaves;
-  observation = p .observation;
-  acknowledged = p .acknowledged;
-  observed = p .observed;
-  seconds = p .seconds;
-  nanoseconds = p .nanoseconds;
-  microsteps = p .microsteps;
-  count = p .count;
+-- a state's own columns are its columns
+pub columns-of : (s : Held) → LentColumns s (s .enclaves) (s .observation) (s .acknowledged) (s .«completion_observed») (s .seconds) (s .nanoseconds) (s .microsteps)
+    (s .count)
+columns-of s = record {
+  enclaves = refl;
+  observation = refl;
+  acknowledged = refl;
+  observed = refl;
+  seconds = refl;
+  nanoseconds = refl;
+  microsteps = refl;
+  count = refl;
 }

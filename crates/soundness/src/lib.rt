@@ -1,5 +1,6 @@
 // Refusal 27 (document 01, "Ceilings and refusals"): whether the numbers that a call is given hold a state of document 01, and a sound one.
-// The Rust has no such test: its types hold nothing else. The state is lent piece by piece, so that no column is copied.
+// The Rust has no such test: its types hold nothing else. The calls that come with every tag lend the columns, so that none is copied (`is_sound_with`); the
+// others hand the state over.
 // Every function is total and refuses nothing.
 ghost use mathlib.Core.Path.{_≡_};
 ghost use mathlib.Core.Bool.{_&&_};
@@ -10,13 +11,14 @@ ghost use Rattle.rules.specs.Calls.{isSound};
 ghost use Rattle.state.specs.Cells.{absent, isCell, isZeroUnless, tagIn};
 ghost use Rattle.state.specs.View.{view, represents};
 ghost use Rattle.state.specs.declared.FederateCoordinationState.{FederateCoordinationState as Held};
-ghost use Rattle.soundness.specs.Lent.{Lent, LentColumns};
+ghost use Rattle.soundness.specs.Lent.{LentColumns};
 ghost use Rattle.soundness.specs.Sound.{soundPublication, soundFlags, soundCoordination, soundInputs, soundCompletion, soundAcquisition, soundGate};
 ghost use Rattle.soundness.specs.Sound.{soundRest, soundSmall, soundAt, soundPlaces};
 use state::ABSENT;
 use state::COMPLETED;
 use state::Completion;
 use state::Coordination;
+use state::FederateCoordinationState;
 use state::Gate;
 use state::STARTED;
 use tags::Tag;
@@ -344,41 +346,34 @@ pub fn is_sound_with<'a>(
     )
 }
 
-// Whether these are the pieces of a state that holds one of document 01 and is sound.
-pub fn is_sound<'a>(
-    enclaves: &'a [u32; 32],
-    observation: &'a [u8; 32],
-    acknowledged: &'a [bool; 32],
-    completion_observed: &'a [u64; 32],
-    seconds: &'a [i64; 96],
-    nanoseconds: &'a [i32; 96],
-    microsteps: &'a [u64; 96],
-    count: usize,
-    coordination: Coordination,
-    completion: Completion,
-    gate: Gate,
-    grant_horizon: Tag,
-    failed: bool,
-    first_failure: u32,
-    lifecycle: u8,
-) -> bool
-    ensures { λ r. ⌜ ((s : Held) → Lent s (now (enclaves .entry)) (now (observation .entry)) (now (acknowledged .entry)) (now («completion_observed» .entry)) (now (seconds .entry)) (now (nanoseconds .entry)) (now (microsteps .entry)) count coordination completion gate «grant_horizon» failed «first_failure» lifecycle → r ≡ (represents s && isSound (view s))) ⌝ }
+// Whether the state holds one of document 01 and is sound.
+pub fn is_sound(state: FederateCoordinationState) -> bool
+    ensures { λ r. ⌜ r ≡ (represents state && isSound (view state)) ⌝ }
 {
+    let coordination = state.coordination;
+    let completion = state.completion;
+    let gate = state.gate;
+    let grant_horizon = state.grant_horizon;
     let small = all_hold(
         coordination_is_sound(coordination),
         completion_is_sound(completion),
         gate_is_sound(gate),
-        rest_is_sound(grant_horizon, failed, first_failure, lifecycle),
+        rest_is_sound(
+            grant_horizon,
+            state.failed,
+            state.first_failure,
+            state.lifecycle,
+        ),
     );
     is_sound_with(
-        enclaves,
-        observation,
-        acknowledged,
-        completion_observed,
-        seconds,
-        nanoseconds,
-        microsteps,
-        count,
+        &state.enclaves,
+        &state.observation,
+        &state.acknowledged,
+        &state.completion_observed,
+        &state.seconds,
+        &state.nanoseconds,
+        &state.microsteps,
+        state.count,
         small,
     )
 }

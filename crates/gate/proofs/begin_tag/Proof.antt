@@ -9,7 +9,7 @@ use borrow.Author.Tests.{not-true, not-false}
 use Rattle.rules.specs.Calls.{isSound, says}
 use Rattle.state.specs.View.{view, represents}
 use Rattle.state.specs.Parts.{Sized, Seated}
-use Rattle.calls.proofs.Standing.{sized-by, whole, Standing, standing, promised-refused, promised-27, promised-taken, promised-still}
+use Rattle.calls.proofs.Standing.{sized-by, Standing, standing, promised-refused, promised-27, promised-taken, promised-still}
 use Prim.Native.Nat.{_<_}
 use Rattle.tags.specs.Tags.{isProper}
 use Rattle.records.specs.declared.Refusal.the-variants.{Taken, ImproperTag}
@@ -27,7 +27,7 @@ use Rattle.gate.proofs.begin_tag.Tie as tie
 -- ---- the state given, and that it passes 27
 
 abbrev entered : tie.After-is-sound → tie.Start
-entered c = c .before .before .before .before .before .before .before .before .before .before .before .before .before
+entered c = c .before .before .before
 
 sized : (e : tie.Start) → Sized (e .args .t1)
 sized e =
@@ -35,7 +35,7 @@ sized e =
     sized-by (e .args .t1) (f .0 .1 .0 .1) (f .1 .0 .1 .0 .1) (f .1 .1 .0 .1 .0 .1) (f .1 .1 .1 .0 .1 .0 .1) (f .1 .1 .1 .1 .0 .1 .0 .1) (f .1 .1 .1 .1 .1 .0 .1 .0 .1) (f .1 .1 .1 .1 .1 .1 .0 .1 .0 .1) (f .1 .1 .1 .1 .1 .1 .1 .0 .1 .0 .1)
 
 tested : (c : tie.After-is-sound) → let s = entered c .args .t1 in c .is-sound .result ≡ (represents s && isSound (view s))
-tested c = c .is-sound .ensures (entered c .args .t1) (whole (entered c .args .t1))
+tested c = c .is-sound .ensures
 
 stands : (c : tie.Else1) → Standing (entered (c .before) .args .t1)
 stands c = standing (entered (c .before) .args .t1) (sized (entered (c .before))) (tested (c .before)) (c .if1 .left)

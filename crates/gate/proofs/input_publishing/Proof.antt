@@ -5,7 +5,7 @@ use Rattle.rules.specs.Calls.{isSound}
 use Rattle.rules.specs.Model.{Silent}
 use Rattle.state.specs.View.{view, represents}
 use Rattle.state.specs.Parts.{Sized}
-use Rattle.calls.proofs.Standing.{sized-by, whole, Standing, standing, promised-27}
+use Rattle.calls.proofs.Standing.{sized-by, Standing, standing, promised-27}
 use Rattle.gate.proofs.Noticing.{ends-unknown, ends-noticed}
 use Rattle.gate.proofs.input_publishing.Statement.{statement}
 use Rattle.gate.proofs.input_publishing.Tie as tie
@@ -13,7 +13,7 @@ use Rattle.gate.proofs.input_publishing.Tie as tie
 -- ---- the state given, and that it passes 27
 
 abbrev entered : tie.After-is-sound → tie.Start
-entered c = c .before .before .before .before .before .before .before .before .before .before .before .before .before .before
+entered c = c .before .before .before .before .before
 
 sized : (e : tie.Start) → Sized (e .args .t1)
 sized e =
@@ -21,7 +21,7 @@ sized e =
     sized-by (e .args .t1) (f .0 .1 .0 .1) (f .1 .0 .1 .0 .1) (f .1 .1 .0 .1 .0 .1) (f .1 .1 .1 .0 .1 .0 .1) (f .1 .1 .1 .1 .0 .1 .0 .1) (f .1 .1 .1 .1 .1 .0 .1 .0 .1) (f .1 .1 .1 .1 .1 .1 .0 .1 .0 .1) (f .1 .1 .1 .1 .1 .1 .1 .0 .1 .0 .1)
 
 tested : (c : tie.After-is-sound) → let s = entered c .args .t1 in c .is-sound .result ≡ (represents s && isSound (view s))
-tested c = c .is-sound .ensures (entered c .args .t1) (whole (entered c .args .t1))
+tested c = c .is-sound .ensures
 
 stands : (c : tie.Else1) → Standing (entered (c .before) .args .t1)
 stands c = standing (entered (c .before) .args .t1) (sized (entered (c .before))) (tested (c .before)) (c .if1 .left)
@@ -58,16 +58,16 @@ revised-requires c κs = tt
 unprobed-requires : tie.Need-unprobed-requires
 unprobed-requires c κs = tt
 
-without-grants-requires : tie.Need-without-grants-requires
-without-grants-requires c κs = tt
-
 with-reply-requires-3 : tie.Need-with-reply-requires-3
 with-reply-requires-3 c κs = tt
 
 returns-3 : tie.Need-returns-3
 returns-3 c =
-    ends-noticed _ _ (stands (c .before .before .before .before .before .before .before .before .before .before .before .before .before .before .before)) (c .before .before .before .before .before .before .before .before .before .before .before .before .are-known .ensures) _ _ _ _ _ _ (c .before .before .before .before .before .before .before .before .before .before .before .if2 .left) (c .before .before .before .before .still-published .ensures)
-    (c .before .before .before .before .before .before .before .clear .ensures) (c .before .before .before .revised .ensures) (c .before .before .unprobed .ensures) (c .before .without-grants .ensures) (c .with-reply3 .ensures)
+    let put = c .before .before .before in
+    let cleared = put .before .before .before in
+    let test = cleared .before .before .before .before in
+    ends-noticed _ _ (stands (test .before .before .before .before)) (test .before .are-known .ensures) _ _ _ _ _ _ (test .if2 .left) (put .still-published .ensures) (cleared .clear .ensures)
+    (c .before .before .revised .ensures) (c .before .unprobed .ensures) refl (c .with-reply3 .ensures)
 
 pub input-publishing-spec : {M : Type 1} → statement M
 input-publishing-spec =
@@ -83,6 +83,5 @@ input-publishing-spec =
     still-published-requires
     revised-requires
     unprobed-requires
-    without-grants-requires
     with-reply-requires-3
     returns-3)

@@ -8,7 +8,7 @@ use Rattle.state.specs.View.{view, represents}
 use Rattle.rules.proofs.Sound.{sound-ascending}
 use Rattle.state.proofs.Neat.{count-bounds}
 use Rattle.calls.proofs.Refusals.{passes}
-use Rattle.calls.proofs.Standing.{whole, is-so}
+use Rattle.calls.proofs.Standing.{is-so}
 use Prim.Native.Nat.{_≤_, _<_}
 use lib.Dec.{T}
 use Rattle.state.proofs.Rows.{seated, unknown-knows}
@@ -20,10 +20,10 @@ use Rattle.gate.proofs.look.Tie as tie
 -- ---- the state given, and that it passes 27
 
 abbrev entered : tie.After-is-sound → tie.Start
-entered c = c .before .before .before .before .before .before .before .before .before .before .before .before .before
+entered c = c .before
 
 tested : (c : tie.After-is-sound) → let s = entered c .args .t1 in c .is-sound .result ≡ (represents s && isSound (view s))
-tested c = c .is-sound .ensures (entered c .args .t1) (whole (entered c .args .t1))
+tested c = c .is-sound .ensures
 
 passing : (c : tie.Else1) → let s = entered (c .before) .args .t1 in (represents s && isSound (view s)) ≡ true
 passing c = sym (tested (c .before)) ∙ not-false (c .before .is-sound .result) (c .if1 .left)

@@ -6,7 +6,7 @@ use borrow.Author.Tests.{not-true, not-false}
 use Rattle.rules.specs.Calls.{isSound}
 use Rattle.state.specs.View.{view, represents}
 use Rattle.state.specs.Parts.{Sized}
-use Rattle.calls.proofs.Standing.{sized-by, whole, Standing, standing, promised-refused, promised-27}
+use Rattle.calls.proofs.Standing.{sized-by, Standing, standing, promised-refused, promised-27}
 use Rattle.records.specs.declared.Refusal.the-variants.{ImproperTag}
 use Rattle.rules.specs.Model.{Silent, horizon}
 use Rattle.gate.proofs.Ends.{asks-horizon, asks-7, ends-capped}
@@ -16,18 +16,18 @@ use Rattle.gate.proofs.set_input_horizon.Tie as tie
 -- ---- the state given, and that it passes 27
 
 abbrev entered : tie.After-is-sound → tie.Start
-entered c = c .before .before .before .before .before .before .before .before .before .before .before .before .before
+entered c = c .before
 
-sized : (e : tie.Start) → Sized (e .args .t1)
+sized : (e : tie.Start) → Sized (e .args .state)
 sized e =
     let f = e .good .0 .1 .1 .1 in
-    sized-by (e .args .t1) (f .0 .1 .0 .1) (f .1 .0 .1 .0 .1) (f .1 .1 .0 .1 .0 .1) (f .1 .1 .1 .0 .1 .0 .1) (f .1 .1 .1 .1 .0 .1 .0 .1) (f .1 .1 .1 .1 .1 .0 .1 .0 .1) (f .1 .1 .1 .1 .1 .1 .0 .1 .0 .1) (f .1 .1 .1 .1 .1 .1 .1 .0 .1 .0 .1)
+    sized-by (e .args .state) (f .0 .1 .0 .1) (f .1 .0 .1 .0 .1) (f .1 .1 .0 .1 .0 .1) (f .1 .1 .1 .0 .1 .0 .1) (f .1 .1 .1 .1 .0 .1 .0 .1) (f .1 .1 .1 .1 .1 .0 .1 .0 .1) (f .1 .1 .1 .1 .1 .1 .0 .1 .0 .1) (f .1 .1 .1 .1 .1 .1 .1 .0 .1 .0 .1)
 
-tested : (c : tie.After-is-sound) → let s = entered c .args .t1 in c .is-sound .result ≡ (represents s && isSound (view s))
-tested c = c .is-sound .ensures (entered c .args .t1) (whole (entered c .args .t1))
+tested : (c : tie.After-is-sound) → let s = entered c .args .state in c .is-sound .result ≡ (represents s && isSound (view s))
+tested c = c .is-sound .ensures
 
-stands : (c : tie.Else1) → Standing (entered (c .before) .args .t1)
-stands c = standing (entered (c .before) .args .t1) (sized (entered (c .before))) (tested (c .before)) (c .if1 .left)
+stands : (c : tie.Else1) → Standing (entered (c .before) .args .state)
+stands c = standing (entered (c .before) .args .state) (sized (entered (c .before))) (tested (c .before)) (c .if1 .left)
 
 -- ---- the answers
 
@@ -50,22 +50,23 @@ returns-2 : tie.Need-returns-2
 returns-2 c =
     let e = entered (c .before .before .before .before) .args in
     promised-refused _ _ ImproperTag Silent
-    (asks-7 (horizon (e .horizon)) (e .horizon) (asks-horizon (e .horizon)) (e .t1) (stands (c .before .before .before) .passing)
+    (asks-7 (horizon (e .horizon)) (e .horizon) (asks-horizon (e .horizon)) (e .state) (stands (c .before .before .before) .passing)
     (sym (c .before .before .proper-if-present .ensures) ∙ not-true _ (c .before .if2 .taken)))
     (omega arith) refl (c .with-reply2 .ensures)
 
-with-input-horizon-requires : tie.Need-with-input-horizon-requires
-with-input-horizon-requires c κs = tt
+cell-of-requires : tie.Need-cell-of-requires
+cell-of-requires c κs = tt
 
 with-reply-requires-3 : tie.Need-with-reply-requires-3
 with-reply-requires-3 c κs = tt
 
 returns-3 : tie.Need-returns-3
 returns-3 c =
-    let e = entered (c .before .before .before .before .before) .args in
-    ends-capped (e .t1) (e .horizon) (stands (c .before .before .before .before))
-    (sym (c .before .before .before .proper-if-present .ensures) ∙ not-false _ (c .before .before .if2 .left)) _ _
-    (c .before .with-input-horizon .ensures) (c .with-reply3 .ensures)
+    let stored = c .before .before in
+    let e = entered (stored .before .before .before .before) .args in
+    ends-capped (e .state) (e .horizon) (stands (stored .before .before .before))
+    (sym (stored .before .before .proper-if-present .ensures) ∙ not-false _ (stored .before .if2 .left)) _ _
+    (c .before .cell-of .ensures) (c .with-reply3 .ensures)
 
 pub set-input-horizon-spec : {M : Type 1} → statement M
 set-input-horizon-spec =
@@ -77,6 +78,6 @@ set-input-horizon-spec =
     proper-if-present-requires
     with-reply-requires-2
     returns-2
-    with-input-horizon-requires
+    cell-of-requires
     with-reply-requires-3
     returns-3)

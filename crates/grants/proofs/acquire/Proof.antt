@@ -1,4 +1,5 @@
 -- `grants::acquire` decides the rule, in its three ways. Assumes nothing.
+use mathlib.Core.Path.{refl}
 use borrow.Author.Needs.{needs}
 use Rattle.grants.proofs.Decision.{answers-outdated, answers-nothing, answers-grants}
 use Rattle.grants.proofs.acquire.Statement.{statement}
@@ -37,12 +38,9 @@ raised-requires c κs = search needs
 without-pending-requires : tie.Need-without-pending-requires
 without-pending-requires c κs = search needs
 
-granting-requires : tie.Need-granting-requires
-granting-requires c κs = search needs
-
 returns-3 : tie.Need-returns-3
 returns-3 c =
-    let f = c .before .before in
+    let f = c .before in
     let n = f .before .before in
     let k = n .before in
     let u = k .before in
@@ -50,7 +48,7 @@ returns-3 c =
     let a = o .before .args in
     answers-grants (a .revision) (a .tag) (a .coordination) (a .gate) (a .horizon) _ (o .is-outdated .ensures) (u .before .before .if1 .left)
     _ (k .stored .ensures) _ (u .capped .ensures) _ (n .brings-nothing .ensures)
-    _ (f .raised .ensures) _ (c .before .without-pending .ensures) _ (c .granting .ensures) (f .before .if2 .left)
+    _ (f .raised .ensures) _ (c .without-pending .ensures) _ refl (f .before .if2 .left)
 
 pub acquire-spec : {M : Type 1} → statement M
 acquire-spec =
@@ -64,5 +62,4 @@ acquire-spec =
     returns-2
     raised-requires
     without-pending-requires
-    granting-requires
     returns-3)

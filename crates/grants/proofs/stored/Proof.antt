@@ -13,13 +13,8 @@ returns c = search needs
 is-newer-requires : tie.Need-is-newer-requires
 is-newer-requires c κs = search needs
 
-storing-requires : tie.Need-storing-requires
-storing-requires c κs = search needs
-
 returns-2 : tie.Need-returns-2
-returns-2 c =
-    let n = c .before .before in
-    rw (sym (n .before .before .is-absent .ensures) ∙ n .before .if1 .left, sym (n .is-newer .ensures) ∙ c .before .if2 .taken) (c .storing .ensures)
+returns-2 c = rw (sym (c .before .before .before .is-absent .ensures) ∙ c .before .before .if1 .left, sym (c .before .is-newer .ensures) ∙ c .if2 .taken) refl
 
 returns-3 : tie.Need-returns-3
 returns-3 c = rw (sym (c .before .before .before .is-absent .ensures) ∙ c .before .before .if1 .left, sym (c .before .is-newer .ensures) ∙ c .if2 .left) refl
@@ -27,4 +22,4 @@ returns-3 c = rw (sym (c .before .before .before .is-absent .ensures) ∙ c .bef
 pub stored-spec : {M : Type 1} → statement M
 stored-spec =
     tie.close
-    (tie.spec is-absent-requires returns is-newer-requires storing-requires returns-2 returns-3)
+    (tie.spec is-absent-requires returns is-newer-requires returns-2 returns-3)

@@ -15,7 +15,7 @@ use Rattle.state.proofs.Neat.{phase-bound}
 use Rattle.calls.specs.Called.{replied}
 use Rattle.observation.proofs.Numbers.{observation-bound}
 use Rattle.calls.specs.Called.{lent}
-use Rattle.calls.proofs.Standing.{sized-by, whole, Standing, standing}
+use Rattle.calls.proofs.Standing.{sized-by, Standing, standing}
 use Rattle.calls.proofs.Ends.{ends-27, ends-8}
 use Rattle.observation.proofs.Observing.{withObservations}
 use Rattle.observation.proofs.Taking.{Enters, Sits, Counted, observe-3, observe-4, observe-ignored, observe-repeat, observe-stored, observe-agreed}
@@ -24,13 +24,13 @@ use Rattle.observation.proofs.handle_observation.Tie as tie
 
 -- the call's entry, seen from where 27 is asked
 abbrev entry : tie.After-is-sound → tie.Start
-entry c = c .before .before .before .before .before .before .before .before .before .before .before .before .before .before
+entry c = c .before .before .before
 
 abbrev called : tie.Start → Call
 called c = observe (c .args .enclave) (c .args .revision) (c .args .observation)
 
 sound-is : (c : tie.After-is-sound) → c .is-sound .result ≡ (represents (entry c .args .t1) && isSound (view (entry c .args .t1)))
-sound-is c = c .is-sound .ensures (entry c .args .t1) (whole (entry c .args .t1))
+sound-is c = c .is-sound .ensures
 
 sized : (c : tie.Start) → Sized (c .args .t1)
 sized c =
@@ -164,14 +164,14 @@ returns-7 c =
     observe-stored (counted (d .before .before)) (d .if4 .left) (a .all-observed .ensures) (not-true _ (c .before .if5 .taken)) (c .with-reply7 .ensures)
 
 clear-requires : tie.Need-clear-requires
-clear-requires c κs = sits (c .before .before .before .before .before .before .before .before .before .before .before .before) .enters .stands .few
+clear-requires c κs = sits (c .before .before .before .before .before .before .before .before .before .before .before) .enters .stands .few
 
 agreed-requires : tie.Need-agreed-requires
 agreed-requires c κs = tt
 
 write-said-requires : tie.Need-write-said-requires
 write-said-requires c κs =
-    let d = c .before .before .before .before .before .before .before .before .before .before in
+    let d = c .before .before .before .before .before .before .before .before .before in
     let n = sits (d .before .before .before .before .before .before) .enters .large in omega arith
 
 with-reply-requires-8 : tie.Need-with-reply-requires-8
@@ -184,7 +184,7 @@ returns-8 : tie.Need-returns-8
 returns-8 c =
     let w = c .before .before .before in
     let m = w .before .before .before in
-    let j = m .before .before .before .before in
+    let j = m .before .before .before in
     let k = j .before .before .before .before .before .before in
     let s = entry (k .before .before .before .before .before .before .before .before .before .before) .args .t1 in
     let moved = m .agreed .result in

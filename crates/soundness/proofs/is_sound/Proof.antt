@@ -1,4 +1,4 @@
--- `soundness::is_sound` is what 27 asks of any state that has these pieces: by `is_sound_with`, since the small parts' tests are together `soundSmall`.
+-- `soundness::is_sound` is what 27 asks: by `is_sound_with`, since the small parts' tests are together `soundSmall`.
 -- Assumes nothing.
 use borrow.Author.Needs.{needs}
 use Rattle.soundness.proofs.Sound.{columns-of, small-by}
@@ -24,13 +24,14 @@ is-sound-with-requires : tie.Need-is-sound-with-requires
 is-sound-with-requires c κs = search needs
 
 returns : tie.Need-returns
-returns c s l =
-    let a = c .before in
+returns c =
+    let a = c .before .before .before .before .before .before .before .before .before in
     let d = a .before in
     let g = d .before in
     let k = g .before in
-    c .is-sound-with .ensures s (columns-of l)
-    (small-by l (k .before .coordination-is-sound .ensures) (k .completion-is-sound .ensures) (g .gate-is-sound .ensures) (d .rest-is-sound .ensures)
+    let s = k .before .before .before .before .before .before .args .t1 in
+    c .is-sound-with .ensures s (columns-of s)
+    (small-by s (k .before .coordination-is-sound .ensures) (k .completion-is-sound .ensures) (g .gate-is-sound .ensures) (d .rest-is-sound .ensures)
     (a .all-hold .ensures))
 
 pub is-sound-spec : {M : Type 1} → statement M
