@@ -1,7 +1,7 @@
 -- A script opened, and the two lines that a run lists besides its events. Of the participants read the first 33 are kept: where there are at most 32 these
 -- are all of them, and where there are more both they and all of them are refused 5. So the opening of those kept is the opening of all. Assumes nothing.
 use mathlib.Core.Path.{_≡_, refl, sym, ap, _∙_, subst}
-use mathlib.Core.Bool.{Bool, true, false, cond}
+use mathlib.Core.Bool.{Bool, true, false, cond, _&&_}
 use mathlib.Core.List.{List}
 use Prim.Native.Nat.{ℕ, _≤_, _<_, min}
 use native.Mathlib.Omega.{arith}
@@ -13,12 +13,13 @@ use Rattle.records.specs.Numbers.{refusalNumber}
 use Rattle.records.specs.declared.Refusal.the-variants.{ScriptTooLong}
 use Rattle.rules.specs.Model.{NoTag, OptionalTag, CoordinationPhase, Active, LifecyclePolicy}
 use Rattle.rules.specs.Opening.{openingRefusal}
+use Rattle.rules.specs.Calls.{isSound}
 use Rattle.rules.specs.Queries.{isSettled}
 use Rattle.state.specs.declared.FederateCoordinationState.{FederateCoordinationState as Held}
+use Rattle.state.specs.View.{view, represents}
 use Rattle.opening.specs.declared.Opened.{Opened as Made}
 use Rattle.opening.specs.Opened.{blank, openedHeld, Opens}
 use Rattle.opening.proofs.Laid.{opening-5}
-use Rattle.queries.specs.Asked.{askHeld}
 use Rattle.numerals.proofs.Splits.{by-order}
 use Rattle.events.specs.Told.{padded}
 use Rattle.eventlines.proofs.Listed.{length-padded, take-padded}
@@ -154,10 +155,13 @@ module _ (refusal number place : ℕ) (is : number ≡ refusal) where
   pub refused-told : (number ≡ 11 → ⊥) → refusedLine refusal ≡ refusalLine refusal place
   refused-told h = rw (ne-eqb refusal 11 (λ z. h (is ∙ z))) refl
 
-pub end-told : (s : Held) {revision generation : ℕ} {phase : CoordinationPhase} {frontier horizon : OptionalTag} {settled : Bool}
-    → revision ≡ askHeld 0 (λ m. m .revision) s .answer → phase ≡ askHeld Active (λ m. m .phase) s .answer
-    → generation ≡ askHeld 0 (λ m. m .completionGeneration) s .answer → frontier ≡ askHeld NoTag (λ m. m .completedFrontier) s .answer
-    → horizon ≡ askHeld NoTag (λ m. m .grantHorizon) s .answer → settled ≡ askHeld false isSettled s .answer
-    → endLine revision phase generation frontier horizon settled ≡ lastLine s
+-- the last line, of a state that 27 refuses and of one that it takes
+pub end-refused : (s : Held) → (represents s && isSound (view s)) ≡ false → endLine 0 Active 0 NoTag NoTag false ≡ lastLine s
 unfolding lastLine
-end-told s a b c d e f = rw (a, b, c, d, e, f) refl
+end-refused s h = rw h refl
+
+pub end-told : (s : Held) {phase : CoordinationPhase} {frontier horizon : OptionalTag} {settled : Bool} → (represents s && isSound (view s)) ≡ true
+    → phase ≡ view s .phase → frontier ≡ view s .completedFrontier → horizon ≡ view s .grantHorizon → settled ≡ isSettled (view s)
+    → endLine (s .coordination .revision) phase (s .completion .«completion_generation») frontier horizon settled ≡ lastLine s
+unfolding lastLine
+end-told s h b d e f = rw (h, b, d, e, f) refl

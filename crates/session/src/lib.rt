@@ -4,10 +4,12 @@ ghost use mathlib.Core.Path.{_≡_};
 ghost use Rattle.records.specs.Numbers.{refusalNumber};
 ghost use Rattle.session.specs.Open.{nowhere, OpensScript};
 ghost use Rattle.session.specs.Listing.{refusalLine, lastLine, Lists};
+use records::CoordinationPhase;
 use records::LifecyclePolicy;
 use records::Refusal;
 use run::Running;
 use state::FederateCoordinationState;
+use tags::OptionalTag;
 
 // A script opened: `Taken` and where its run begins; or why it was refused and, for 11, at which place.
 pub struct Opened {
@@ -77,30 +79,43 @@ pub fn list_refusal(refusal: Refusal, place: usize, out: &mut [u8]) -> usize
     listing::put_refused(out, 0, refusal)
 }
 
-// Lists the end of a run, from byte 0 of the room, and answers how many bytes that took; none if the room has less than 240.
+// Lists the end of a run, from byte 0 of the room, and answers how many bytes that took; none if the room has less than 240. What the queries answer, with 27
+// asked once.
 pub fn list_end(state: FederateCoordinationState, out: &mut [u8]) -> usize
     ensures { λ r. ⌜ Lists 240 (lastLine state) (now (out .entry)) (now (out .exit)) r ⌝ }
 {
     if out.len() < 240 {
         return 0;
     }
-    let revision = queries::revision(state);
-    let phase = queries::phase(state);
-    let generation = queries::generation(state);
-    let frontier = queries::completed_frontier(state);
-    let horizon = queries::grant_horizon(state);
-    let settled = queries::is_settled(state);
-    let reached = phase.answer;
-    let completed = frontier.answer;
-    let granted = horizon.answer;
+    if !soundness::is_sound(state) {
+        let phase = CoordinationPhase::Active;
+        return listing::put_end(
+            out,
+            0,
+            0,
+            phase,
+            0,
+            OptionalTag::NoTag,
+            OptionalTag::NoTag,
+            false,
+        );
+    }
+    let coordination = state.coordination;
+    let completion = state.completion;
+    let frontier = completion.completed_frontier;
+    let horizon = state.grant_horizon;
+    let phase = queries::phase_of(coordination.phase);
+    let completed = state::optional_of(frontier);
+    let granted = state::optional_of(horizon);
+    let settled = queries::no_publication_and_no_probe(coordination, completion);
     listing::put_end(
         out,
         0,
-        revision.answer,
-        reached,
-        generation.answer,
+        coordination.revision,
+        phase,
+        completion.completion_generation,
         completed,
         granted,
-        settled.answer,
+        settled,
     )
 }
