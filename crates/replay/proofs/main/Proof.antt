@@ -7,49 +7,31 @@ use Rattle.replay.proofs.main.Statement.{statement}
 use Rattle.replay.proofs.main.Tie as tie
 
 abbrev Inv-loop : tie.InvT-loop
-Inv-loop head₀ scripts₀ agreed₀ t6 t7 head scripts agreed = (length head ≡ 8) × (scripts ≤ 100000) × (agreed ≤ scripts)
+Inv-loop text₀ listing₀ scripts₀ text listing scripts = (length text ≡ 66000) × (length listing ≡ 66000) × (scripts ≤ 100000)
 
 abbrev μ-loop : tie.MeasureT-loop
-μ-loop head₀ scripts₀ agreed₀ t6 t7 head scripts agreed = 100000 - scripts
+μ-loop text₀ listing₀ scripts₀ text listing scripts = 100000 - scripts
+
+room-requires : tie.Need-room-requires Inv-loop μ-loop
+room-requires c κs = tt
+
+room-requires-2 : tie.Need-room-requires-2 Inv-loop μ-loop
+room-requires-2 c κs = tt
 
 loop-holds : tie.Need-loop-holds Inv-loop μ-loop
 loop-holds c = search needs
 
-slice-aggregate-read-full : tie.Need-slice-aggregate-read-full Inv-loop μ-loop
-slice-aggregate-read-full c = search needs
+slice-aggregate-list-next : tie.Need-slice-aggregate-list-next Inv-loop μ-loop
+slice-aggregate-list-next c = search needs
 
-read-full-requires : tie.Need-read-full-requires Inv-loop μ-loop
-read-full-requires c κs = search needs
+slice-aggregate-list-next-2 : tie.Need-slice-aggregate-list-next-2 Inv-loop μ-loop
+slice-aggregate-list-next-2 c = search needs
 
-slice-aggregate-get4 : tie.Need-slice-aggregate-get4 Inv-loop μ-loop
-slice-aggregate-get4 c = search needs
-
-get4-requires : tie.Need-get4-requires Inv-loop μ-loop
-get4-requires c κs = search needs
-
-cast-script-length : tie.Need-cast-script-length Inv-loop μ-loop
-cast-script-length c = search needs
-
-slice-aggregate-get4-2 : tie.Need-slice-aggregate-get4-2 Inv-loop μ-loop
-slice-aggregate-get4-2 c = search needs
-
-get4-requires-2 : tie.Need-get4-requires-2 Inv-loop μ-loop
-get4-requires-2 c κs = search needs
-
-cast-listing-length : tie.Need-cast-listing-length Inv-loop μ-loop
-cast-listing-length c = search needs
+list-next-requires : tie.Need-list-next-requires Inv-loop μ-loop
+list-next-requires c κs = tt
 
 add-scripts : tie.Need-add-scripts Inv-loop μ-loop
 add-scripts c = search needs
-
-agrees-next-requires : tie.Need-agrees-next-requires Inv-loop μ-loop
-agrees-next-requires c κs = search needs
-
-one-if-requires : tie.Need-one-if-requires Inv-loop μ-loop
-one-if-requires c κs = search needs
-
-add-agreed : tie.Need-add-agreed Inv-loop μ-loop
-add-agreed c = search needs
 
 loop-less : tie.Need-loop-less Inv-loop μ-loop
 loop-less c = search needs
@@ -57,26 +39,11 @@ loop-less c = search needs
 loop-again : tie.Need-loop-again Inv-loop μ-loop
 loop-again c = search needs
 
-print-decimal-requires : tie.Need-print-decimal-requires Inv-loop μ-loop
-print-decimal-requires c κs = search needs
-
-slice-aggregate-write-all : tie.Need-slice-aggregate-write-all Inv-loop μ-loop
-slice-aggregate-write-all c = search needs
-
-write-all-requires : tie.Need-write-all-requires Inv-loop μ-loop
-write-all-requires c κs = search needs
-
-print-decimal-requires-2 : tie.Need-print-decimal-requires-2 Inv-loop μ-loop
-print-decimal-requires-2 c κs = search needs
-
-slice-aggregate-write-all-2 : tie.Need-slice-aggregate-write-all-2 Inv-loop μ-loop
-slice-aggregate-write-all-2 c = search needs
-
-write-all-requires-2 : tie.Need-write-all-requires-2 Inv-loop μ-loop
-write-all-requires-2 c κs = search needs
-
 returns : tie.Need-returns Inv-loop μ-loop
-returns c = search needs
+returns c = tt
+
+returns-2 : tie.Need-returns-2 Inv-loop μ-loop
+returns-2 c = tt
 
 pub main-spec : {M : Type 1} → statement M
 main-spec =
@@ -84,25 +51,14 @@ main-spec =
     (tie.spec
     Inv-loop
     μ-loop
+    room-requires
+    room-requires-2
     loop-holds
-    slice-aggregate-read-full
-    read-full-requires
-    slice-aggregate-get4
-    get4-requires
-    cast-script-length
-    slice-aggregate-get4-2
-    get4-requires-2
-    cast-listing-length
+    slice-aggregate-list-next
+    slice-aggregate-list-next-2
+    list-next-requires
     add-scripts
-    agrees-next-requires
-    one-if-requires
-    add-agreed
     loop-less
     loop-again
-    print-decimal-requires
-    slice-aggregate-write-all
-    write-all-requires
-    print-decimal-requires-2
-    slice-aggregate-write-all-2
-    write-all-requires-2
-    returns)
+    returns
+    returns-2)

@@ -1,9 +1,9 @@
--- `rigscript::write_listing` writes a part that stands within the listing. Assumes nothing.
+-- `output::write_listing` writes a part that stands within the listing. Assumes nothing.
 use mathlib.Core.Path.{sym}
 use lib.Seq.{length-take-le}
 use borrow.Author.Needs.{needs}
-use Rattle.rigscript.proofs.write_listing.Statement.{statement}
-use Rattle.rigscript.proofs.write_listing.Tie as tie
+use Rattle.output.proofs.write_listing.Statement.{statement}
+use Rattle.output.proofs.write_listing.Tie as tie
 
 slice-aggregate-write-all : tie.Need-slice-aggregate-write-all
 slice-aggregate-write-all c = sym (length-take-le _ _ (c .before .if1 .taken))
