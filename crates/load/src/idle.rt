@@ -41,18 +41,16 @@ pub fn play(opened: FederateCoordinationState, load: Load, enclaves: &[u32]) -> 
     let mut totals = totals::nothing();
     let mut step = steps::first();
     while step.turn <= load.turns {
-        let state = called.state;
-        let coordination = state.coordination;
-        let revision = coordination.revision;
+        let revision = called.state.coordination.revision;
         let enclave = step.enclave;
         let stage = step.stage;
         if stage == PUBLISHES {
-            called = federate::handle_scheduler(state, idle_message(enclave), room);
+            called = federate::handle_scheduler(called.state, idle_message(enclave), room);
         } else if stage == REVIVES {
-            called = gate::input_publishing(state, enclaves);
+            called = gate::input_publishing(called.state, enclaves);
         } else {
             let seen = observation_at(stage);
-            called = observation::handle_observation(state, enclave, revision, seen, room);
+            called = observation::handle_observation(called.state, enclave, revision, seen, room);
         }
         let reply = called.reply;
         totals = totals::added(totals, reply);

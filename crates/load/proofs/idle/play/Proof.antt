@@ -49,7 +49,7 @@ next-requires c κs = search needs
 
 loop-less : tie.Need-loop-less Inv-loop μ-loop
 loop-less c =
-    let test = c .before .before .before .before .before .before in
+    let test = c .before .before .before .before in
     let loop = test .before .before .before in
     omega (arith, test .if1 .taken, loop .loop .inv, loop .before .before .before .before .before .before .pre, c .next .ensures)
 
