@@ -62,7 +62,7 @@ pub fn delays() {
 
 // 0 counts, 1 is ignored, 2 is refused.
 fn show_verdict(phase: CoordinationPhase, observation: Observation) {
-    let verdict = observation::verdict(phase, observation);
+    let verdict = verdicts::verdict(phase, observation);
     say(b"verdict");
     say_number(records::verdict_number(verdict) as u64);
     say(b"\n");

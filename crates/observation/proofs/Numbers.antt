@@ -1,26 +1,12 @@
--- The numbers of policies, observations and verdicts say the same as their cases, and the table of numbers the same as the rules' table of
--- verdicts: each by its few cases. Assumes nothing.
-use mathlib.Core.Path.{_≡_, refl, ap, _∙_}
-use mathlib.Core.List.{List, [], _∷_, map}
-use Prim.Native.Nat.{ℕ, zero, suc, _+_, _*_, _≤_, _<_}
-use native.Mathlib.Nat.{not-suc-le-zero}
+-- The numbers of policies and observations say the same as their cases: each by its few cases. Assumes nothing.
+use mathlib.Core.Path.{_≡_, refl}
+use Prim.Native.Nat.{ℕ, zero, suc, _+_, _≤_}
 use native.Mathlib.Omega.{arith}
 use lib.Dec.{eqb}
-use lib.ListN.{length, getD}
-use Rattle.records.specs.Numbers.{observationNumber, verdictNumber}
+use Rattle.records.specs.Numbers.{observationNumber}
 use Rattle.rules.specs.Model.{Observation, Probed, HasParked, Rechecked}
-use Rattle.rules.specs.Model.{Verdict, Counts, Ignored, Refused}
-use Rattle.rules.specs.Observation.{verdicts, verdictOf, hasObserved, isCoordinated}
-use Rattle.state.specs.Cells.{phaseOf, policyOf, observationOf}
-use Rattle.state.proofs.Round.{phase-number}
-use Rattle.observation.specs.Moves.{verdictNumbered}
-
--- ---- numbers of enums
-
-pub observation-bound : (o : Observation) → observationNumber o ≤ 2
-observation-bound Probed = omega arith
-observation-bound HasParked = omega arith
-observation-bound Rechecked = omega arith
+use Rattle.rules.specs.Observation.{hasObserved, isCoordinated}
+use Rattle.state.specs.Cells.{policyOf, observationOf}
 
 pub observed-cell : (o : Observation) (n : ℕ) → n ≤ 3 → hasObserved o (observationOf n) ≡ eqb n (observationNumber o + 1)
 observed-cell Probed zero h = refl
@@ -42,24 +28,3 @@ coordinated-numbered zero h = refl
 coordinated-numbered (suc zero) h = refl
 coordinated-numbered (suc (suc zero)) h = refl
 coordinated-numbered (suc (suc (suc n))) h = absurd (omega arith)
-
-pub verdict-numbered : (v : Verdict) → verdictNumbered (verdictNumber v) ≡ v
-verdict-numbered Counts = refl
-verdict-numbered Ignored = refl
-verdict-numbered Refused = refl
-
--- ---- the table
-
-entry-map : {A B : Type 0} (f : A → B) (l : List A) (a : A) (b : B) (k : ℕ) → k < length l → getD (map f l) k b ≡ f (getD l k a)
-entry-map f [] a b k h = absurd (not-suc-le-zero h)
-entry-map f (x ∷ xs) a b zero h = refl
-entry-map f (x ∷ xs) a b (suc k) h = entry-map f xs a b k (omega arith)
-
--- one computed test of the whole table, then the rule at each entry
-pub table-entry : (numbers : List ℕ) → numbers ≡ map verdictNumber verdicts → (k : ℕ) → k < 21 → getD numbers k 0 ≡ verdictNumber (getD verdicts k Ignored)
-table-entry numbers e k h = ap (λ l. getD l k 0) e ∙ entry-map verdictNumber verdicts Ignored 0 k h
-
-pub looked-up-verdict : (phase : ℕ) (o : Observation) {column number : ℕ} {v : Verdict} → phase ≤ 6 → column ≡ observationNumber o
-    → number ≡ verdictNumber (getD verdicts (phase * 3 + column) Ignored) → v ≡ verdictNumbered number → v ≡ verdictOf (phaseOf phase) o
-looked-up-verdict phase o h e f g =
-    rw (phase-number phase h) (g ∙ ap verdictNumbered f ∙ verdict-numbered _ ∙ ap (λ k. getD verdicts (phase * 3 + k) Ignored) e)

@@ -26,7 +26,8 @@ use Rattle.state.proofs.Neat.{NeatPlace, place-parts, place-whole, neat-parts, 
 use Rattle.state.proofs.Round.{observation-cell}
 use Rattle.state.proofs.Seats.{any-seated}
 use Rattle.observation.specs.Moves.{unheardBy}
-use Rattle.observation.proofs.Numbers.{observed-cell, observation-bound}
+use Rattle.verdicts.proofs.Table.{observation-bound}
+use Rattle.observation.proofs.Numbers.{observed-cell}
 use Rattle.observation.proofs.Deciding.{phase-is}
 
 -- the state with these observations

@@ -1,10 +1,10 @@
 -- What the functions that decide an observation, an idle confirmation or a stop promise, on the numbers that the state holds. Assumes nothing.
 use mathlib.Core.Path.{_≡_}
-use mathlib.Core.Bool.{Bool, not, cond, _||_}
+use mathlib.Core.Bool.{Bool, not, _||_}
 use mathlib.Core.List.{List, [], _∷_}
 use Prim.Native.Nat.{ℕ}
 use lib.Dec.{T, eqb}
-use Rattle.rules.specs.Model.{Verdict, Counts, Ignored, Refused, CoordinationAction, State, Step}
+use Rattle.rules.specs.Model.{CoordinationAction, State, Step}
 use Rattle.state.specs.declared.FederateCoordinationState.{FederateCoordinationState as Held}
 use Rattle.state.specs.declared.Coordination.{Coordination}
 use Rattle.state.specs.View.{view, neatCoordination}
@@ -12,10 +12,6 @@ use Rattle.state.specs.Parts.{withCoordination}
 use Rattle.observation.specs.declared.Said.{Said}
 use Rattle.observation.specs.declared.Said.the-variants.{Nothing, Says}
 use Rattle.observation.specs.declared.Moved.{Moved}
-
--- "counts, ignored, refused" by number
-abbrev pub verdictNumbered : ℕ → Verdict
-verdictNumbered n = cond (eqb n 0) Counts (cond (eqb n 1) Ignored Refused)
 
 -- "Stopped, stale or AwaitingIdleConfirmation", of the phase's number, the current revision and the one given
 abbrev pub unheardBy : ℕ → ℕ → ℕ → Bool

@@ -1,4 +1,4 @@
-// Observation, idle confirmation and stop (document 01, "Observation" with its table of verdicts, "Idle confirmation", and `stop` of
+// Observation, idle confirmation and stop (document 01, "Observation", "Idle confirmation", and `stop` of
 // "ParticipantStopped, Failed, stop"; state.rs: handle_observation, handle_idle_confirmation, stop). A call refuses with 27 and 8; an
 // observation also with 3 and, where it is heard and the table says so, with 4.
 ghost use mathlib.Core.Path.{_≡_};
@@ -12,18 +12,16 @@ ghost use Rattle.rules.specs.Model.{Ignored, observe, idle, stop};
 ghost use Rattle.rules.specs.Walk.{isNumber};
 ghost use Rattle.rules.specs.Stop.{stopOf};
 ghost use Rattle.rules.specs.Observation as rules;
-ghost use Rattle.records.specs.Numbers.{verdictNumber};
 ghost use Rattle.state.specs.declared.FederateCoordinationState.{FederateCoordinationState as Held};
 ghost use Rattle.state.specs.Cells.{phaseOf, numberIf};
 ghost use Rattle.state.specs.View.{represents};
 ghost use Rattle.state.specs.Walk.{allOf};
 ghost use Rattle.calls.specs.Called.{Promised, lent, actionsOf};
 ghost use Rattle.observation.specs.declared.Said.the-variants.{Nothing};
-ghost use Rattle.observation.specs.Moves.{Moves, sayings, unheardBy, verdictNumbered, inPhase};
+ghost use Rattle.observation.specs.Moves.{Moves, sayings, unheardBy, inPhase};
 use calls::Called;
 use records::Answer;
 use records::CoordinationAction;
-use records::CoordinationPhase;
 use records::CoordinationRevision;
 use records::EnclaveIndex;
 use records::Observation;
@@ -42,65 +40,6 @@ enum Said {
 struct Moved {
     coordination: Coordination,
     said: Said,
-}
-
-// The verdict's number for each phase and observation: 0 counts, 1 ignored, 2 refused. The last two phases are never looked up.
-const VERDICTS: [u8; 21] = [
-    2, // Active, Probed
-    2, // Active, Parked
-    2, // Active, Rechecked
-    0, // Probing, Probed
-    2, // Probing, Parked
-    2, // Probing, Rechecked
-    1, // Parking, Probed
-    0, // Parking, Parked
-    2, // Parking, Rechecked
-    1, // Rechecking, Probed
-    1, // Rechecking, Parked
-    0, // Rechecking, Rechecked
-    2, // Parked, Probed
-    2, // Parked, Parked
-    2, // Parked, Rechecked
-    1, // AwaitingIdleConfirmation, Probed
-    1, // AwaitingIdleConfirmation, Parked
-    1, // AwaitingIdleConfirmation, Rechecked
-    1, // Stopped, Probed
-    1, // Stopped, Parked
-    1, // Stopped, Rechecked
-];
-
-fn looked_up(phase: u8, observation: u8) -> u8
-    requires { ⌜ (phase ≤ 6) × (observation ≤ 2) ⌝ }
-    ensures { λ r. ⌜ r ≡ verdictNumber (getD rules.verdicts (phase * 3 + observation) Ignored) ⌝ }
-{
-    VERDICTS[(phase * 3 + observation) as usize]
-}
-
-fn verdict_of(number: u8) -> Verdict
-    ensures { λ r. ⌜ r ≡ verdictNumbered number ⌝ }
-{
-    if number == 0 {
-        return Verdict::Counts;
-    }
-    if number == 1 {
-        return Verdict::Ignored;
-    }
-    Verdict::Refused
-}
-
-fn verdict_in(phase: u8, observation: Observation) -> Verdict
-    requires { ⌜ phase ≤ 6 ⌝ }
-    ensures { λ r. ⌜ r ≡ rules.verdictOf (phaseOf phase) observation ⌝ }
-{
-    let column = records::observation_number(observation);
-    verdict_of(looked_up(phase, column))
-}
-
-// What becomes of an observation in a phase.
-pub fn verdict(phase: CoordinationPhase, observation: Observation) -> Verdict
-    ensures { λ r. ⌜ r ≡ rules.verdictOf phase observation ⌝ }
-{
-    verdict_in(records::phase_number(phase), observation)
 }
 
 fn is_unheard(phase: u8, current: CoordinationRevision, revision: CoordinationRevision) -> bool
@@ -123,7 +62,7 @@ fn judged(c: Coordination, revision: CoordinationRevision, observation: Observat
     if is_unheard(c.phase, c.revision, revision) {
         return Verdict::Ignored;
     }
-    verdict_in(c.phase, observation)
+    verdicts::verdict_in(c.phase, observation)
 }
 
 fn all_observed(observation: &[u8; 32], count: usize, cell: u8) -> bool

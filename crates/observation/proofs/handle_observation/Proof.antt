@@ -13,7 +13,7 @@ use Rattle.state.specs.View.{view, represents}
 use Rattle.state.specs.Parts.{Sized, withCoordination}
 use Rattle.state.proofs.Neat.{phase-bound}
 use Rattle.calls.specs.Called.{replied}
-use Rattle.observation.proofs.Numbers.{observation-bound}
+use Rattle.verdicts.proofs.Table.{observation-bound}
 use Rattle.calls.specs.Called.{lent}
 use Rattle.calls.proofs.Standing.{sized-by, Standing, standing}
 use Rattle.calls.proofs.Ends.{ends-27, ends-8}

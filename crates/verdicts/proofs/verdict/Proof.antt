@@ -1,11 +1,11 @@
--- `observation::verdict` meets its contract: a phase is the case of its number. Assumes nothing.
+-- `verdicts::verdict` meets its contract: a phase is the case of its number. Assumes nothing.
 use mathlib.Core.Path.{ap, _∙_}
 use borrow.Author.Needs.{needs}
 use Rattle.rules.specs.Observation.{verdictOf}
 use Rattle.state.specs.Cells.{phaseOf}
 use Rattle.state.proofs.Round.{number-phase, phase-below}
-use Rattle.observation.proofs.verdict.Statement.{statement}
-use Rattle.observation.proofs.verdict.Tie as tie
+use Rattle.verdicts.proofs.verdict.Statement.{statement}
+use Rattle.verdicts.proofs.verdict.Tie as tie
 
 phase-number-requires : tie.Need-phase-number-requires
 phase-number-requires c κs = search needs

@@ -1,8 +1,8 @@
--- `observation::verdict_of` meets its contract: by the two tests. Assumes nothing.
+-- `verdicts::verdict_of` meets its contract: by the two tests. Assumes nothing.
 use mathlib.Core.Path.{refl}
 use borrow.Author.Tests.{eq-eqb, ne-eqb}
-use Rattle.observation.proofs.verdict_of.Statement.{statement}
-use Rattle.observation.proofs.verdict_of.Tie as tie
+use Rattle.verdicts.proofs.verdict_of.Statement.{statement}
+use Rattle.verdicts.proofs.verdict_of.Tie as tie
 
 returns : tie.Need-returns
 returns c = rw (eq-eqb _ _ (c .if1 .taken)) refl

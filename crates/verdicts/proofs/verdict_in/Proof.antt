@@ -1,8 +1,8 @@
--- `observation::verdict_in` meets its contract: the looked-up number is the verdict's. Assumes nothing.
+-- `verdicts::verdict_in` meets its contract: the looked-up number is the verdict's. Assumes nothing.
 use borrow.Author.Needs.{needs}
-use Rattle.observation.proofs.Numbers.{observation-bound, looked-up-verdict}
-use Rattle.observation.proofs.verdict_in.Statement.{statement}
-use Rattle.observation.proofs.verdict_in.Tie as tie
+use Rattle.verdicts.proofs.Table.{observation-bound, looked-up-verdict}
+use Rattle.verdicts.proofs.verdict_in.Statement.{statement}
+use Rattle.verdicts.proofs.verdict_in.Tie as tie
 
 observation-number-requires : tie.Need-observation-number-requires
 observation-number-requires c κs = tt

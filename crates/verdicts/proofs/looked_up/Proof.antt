@@ -1,11 +1,11 @@
--- `observation::looked_up` meets its contract: the table of numbers is that of the verdicts, entry by entry, which antt computes. Assumes nothing.
+-- `verdicts::looked_up` meets its contract: the table of numbers is that of the verdicts, entry by entry, which antt computes. Assumes nothing.
 use mathlib.Core.Path.{refl}
 use Prim.Native.Nat.{_+_, _*_}
 use native.Mathlib.Omega.{arith}
 use borrow.Author.Needs.{needs}
-use Rattle.observation.proofs.Numbers.{table-entry}
-use Rattle.observation.proofs.looked_up.Statement.{statement}
-use Rattle.observation.proofs.looked_up.Tie as tie
+use Rattle.verdicts.proofs.Table.{table-entry}
+use Rattle.verdicts.proofs.looked_up.Statement.{statement}
+use Rattle.verdicts.proofs.looked_up.Tie as tie
 
 mul-result : tie.Need-mul-result
 mul-result c = search needs
