@@ -3,7 +3,7 @@
 // observation also with 3 and, where it is heard and the table says so, with 4.
 ghost use mathlib.Core.Path.{_≡_};
 ghost use mathlib.Core.Bool.{not, cond, _&&_};
-ghost use Prim.Native.Nat.{_*_, _+_, _≤_};
+ghost use Prim.Native.Nat.{_≤_};
 ghost use lib.Dec.{T, eqb};
 ghost use lib.ListN.{getD, length};
 ghost use Rattle.bytes.specs.Runs.{putAt};
