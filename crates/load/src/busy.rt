@@ -6,9 +6,7 @@ use crate::steps;
 use crate::steps::Step;
 use crate::totals;
 use crate::totals::Totals;
-use records::Answer;
 use records::FederateAcquisition;
-use records::Refusal;
 use records::SchedulerMessage;
 use state::FederateCoordinationState;
 use tags::OptionalTag;
@@ -72,47 +70,35 @@ fn message(load: Load, step: Step, generation: u64) -> SchedulerMessage
     }
 }
 
-fn acquisition_of(load: Load, step: Step, revision: u64) -> FederateAcquisition
-    requires { ⌜ step .turn ≤ 100000 ⌝ }
-{
-    FederateAcquisition {
-        revision,
-        granted: tag_of(load, step.turn),
-    }
-}
-
-// The calls are made here, from one of two places to the other and back: a result that is stored where its call read would be copied once more, and so
-// would a state that is handed to another function.
+// The calls are made here, on the state itself: handing it to another function would be measured too.
 pub fn play(opened: FederateCoordinationState, load: Load) -> Totals
     requires { ⌜ (load .count ≤ 32) × (load .stride ≤ 4095) × (load .turns ≤ 100000) ⌝ }
 {
     let mut space: [u8; 1904] = [0; 1904];
     let room: &mut [u8] = &mut space;
-    let mut even = calls::with_reply(opened, Refusal::Taken, Answer::Silent, 0);
-    let mut odd = even;
+    let mut state = opened;
     let mut totals = totals::nothing();
     let mut step = steps::first();
     while step.turn <= load.turns {
         if step.stage == ACQUIRES {
-            let acquired = acquisition_of(load, step, even.state.coordination.revision);
-            odd = acquisition::handle_acquisition(even.state, acquired, room);
+            let coordination = state.coordination;
+            let acquisition = FederateAcquisition {
+                revision: coordination.revision,
+                granted: tag_of(load, step.turn),
+            };
+            let called = acquisition::handle_acquisition(state, acquisition, room);
+            let reply = called.reply;
+            state = called.state;
+            totals = totals::added(totals, reply);
         } else {
-            let said = message(load, step, even.state.completion.completion_generation);
-            odd = federate::handle_scheduler(even.state, said, room);
+            let completion = state.completion;
+            let said = message(load, step, completion.completion_generation);
+            let called = federate::handle_scheduler(state, said, room);
+            let reply = called.reply;
+            state = called.state;
+            totals = totals::added(totals, reply);
         }
-        totals = totals::added(totals, odd.reply);
         step = steps::next(load, step, step.stage == ACQUIRES, COMPLETES);
-        if step.turn <= load.turns {
-            if step.stage == ACQUIRES {
-                let acquired = acquisition_of(load, step, odd.state.coordination.revision);
-                even = acquisition::handle_acquisition(odd.state, acquired, room);
-            } else {
-                let said = message(load, step, odd.state.completion.completion_generation);
-                even = federate::handle_scheduler(odd.state, said, room);
-            }
-            totals = totals::added(totals, even.reply);
-            step = steps::next(load, step, step.stage == ACQUIRES, COMPLETES);
-        }
     }
     totals
 }
