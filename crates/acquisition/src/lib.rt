@@ -142,7 +142,9 @@ pub fn handle_acquisition(
     if records::refusal_number(refusal) != 0 {
         return calls::with_reply(state, refusal, Answer::Silent, 0);
     }
-    let acquired = grants::acquire(coordination, gate, horizon, acquisition.revision, tag);
+    let held_coordination = state::coordination_by_fields(coordination);
+    let held_gate = state::gate_by_fields(gate);
+    let acquired = grants::acquire(held_coordination, held_gate, horizon, acquisition.revision, tag);
     let settled = acquired.coordination;
     let opened = acquired.gate;
     let further = acquired.horizon;

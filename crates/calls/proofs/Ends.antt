@@ -21,7 +21,7 @@ use Rattle.rules.proofs.Room.{call-fits-room}
 use Rattle.state.specs.declared.FederateCoordinationState.{FederateCoordinationState as Held}
 use Rattle.state.specs.View.{view, put, represents}
 use Rattle.state.proofs.Put.{Beyond, beyond-refl}
-use Rattle.calls.specs.Called.{lent, refusalOf, stateOf, actionsOf, answerOf, Promised, replied, roomFirst, tagFirst}
+use Rattle.calls.specs.Called.{lent, refusalOf, stateOf, actionsOf, answerOf, Promised, replied, isOpen, roomFirst, tagFirst}
 use Rattle.calls.specs.declared.Called.{Called}
 use Rattle.calls.proofs.Refusals.{Passes, passes, room-of, refusal-27, refusal-8, refusal-7, refusal-3, actions-taken}
 use Rattle.calls.proofs.Standing.{Standing, promised-refused, promised-27, promised-taken}
@@ -29,6 +29,9 @@ use Rattle.calls.proofs.Standing.{Standing, promised-refused, promised-
 -- what is promised of the answer, and of the room before and after
 abbrev pub Ends : Given → Held → Called → List ℕ → List ℕ → Type 0
 Ends g s r before after = Promised g s r × (after ≡ putAt before 0 (recordsOf (actionsOf g s)))
+
+no-way : false ≡ true → ⊥
+no-way e = let z : _≡_ {A = ℕ} 0 1 = cc in omega arith
 
 -- ---- the room
 
@@ -121,6 +124,16 @@ module _ (g : Given) (s : Held) {b c : Bool} {n : Refusal} (f : First g s b c n)
           by zero h = absurd (h refl)
           by (suc m) h = omega arith
 
+  -- one of the three
+  pub first-shut : isOpen (g .room) (s .count) b c ≡ false → refusalNumber n ≡ 0 → ⊥
+  first-shut shut = subst (λ (x : Refusal). refusalNumber x ≡ 0 → ⊥) (sym (f .is)) (go short b c shut)
+    where
+      go : (a b c : Bool) → (not a && (b && c)) ≡ false → refusalNumber (cond a RoomTooSmall (tagFirst b c)) ≡ 0 → ⊥
+      go true b c q l = omega arith
+      go false false c q l = omega arith
+      go false true false q l = omega arith
+      go false true true q l = no-way (sym q)
+
   -- none of the three
   pub first-none : refusalNumber n ≡ 0 → (56 * (s .count + 2) ≤ g .room) × (b ≡ true) × (c ≡ true)
   first-none h =
@@ -132,6 +145,16 @@ module _ (g : Given) (s : Held) {b c : Bool} {n : Refusal} (f : First g s b c n)
       go false false c l = absurd (omega arith)
       go false true false l = absurd (omega arith)
       go false true true l = (refl, refl, refl)
+
+-- none of the three, asked before any refusal is made
+pub open-three : (room count : ℕ) (b c : Bool) → isOpen room count b c ≡ true → (56 * (count + 2) ≤ room) × (b ≡ true) × (c ≡ true)
+open-three room count b c h = go (ltb room (56 * (count + 2))) b c refl h
+  where
+    go : (a b c : Bool) → ltb room (56 * (count + 2)) ≡ a → (not a && (b && c)) ≡ true → (56 * (count + 2) ≤ room) × (b ≡ true) × (c ≡ true)
+    go true b c q l = absurd (no-way l)
+    go false false c q l = absurd (no-way l)
+    go false true false q l = absurd (no-way l)
+    go false true true q l = (ltb-false room (56 * (count + 2)) q, refl, refl)
 
 -- the actions of a taken call fit into the room that it demands
 pub actions-fit : (g : Given) (s : Held) → Passes s → 0 ≡ refusalOf g s → 56 * length (takeStep (g .what) (view s) .actions) ≤ 56 * (s .count + 2)

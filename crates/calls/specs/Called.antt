@@ -1,7 +1,7 @@
 -- What a public call on the state held promises, in the words of the rules: refusal, answer, number of actions, the state with every cell, and the
 -- actions whose records the room holds afterwards. Assumes nothing.
 use mathlib.Core.Path.{_≡_}
-use mathlib.Core.Bool.{Bool, cond}
+use mathlib.Core.Bool.{Bool, not, cond, _&&_}
 use mathlib.Core.List.{List, []}
 use Prim.Native.Nat.{ℕ, _+_, _*_}
 use lib.Dec.{eqb, ltb}
@@ -52,3 +52,7 @@ roomFirst room count later = cond (ltb room (56 * (count + 2))) RoomTooSmall lat
 
 abbrev pub tagFirst : Bool → Bool → Refusal
 tagFirst proper known = cond proper (cond known Taken UnknownEnclave) ImproperTag
+
+-- none of the three
+abbrev pub isOpen : ℕ → ℕ → Bool → Bool → Bool
+isOpen room count proper known = not (ltb room (56 * (count + 2))) && (proper && known)

@@ -1,7 +1,7 @@
 // What a public call answers: the next state and a reply, the same for every call. A refused call hands back the state it got.
 ghost use mathlib.Core.Path.{_≡_};
 ghost use Prim.Native.Nat.{_≤_};
-ghost use Rattle.calls.specs.Called.{replied, roomFirst, tagFirst};
+ghost use Rattle.calls.specs.Called.{replied, isOpen, roomFirst, tagFirst};
 use records::Answer;
 use records::Refusal;
 use state::FederateCoordinationState;
@@ -34,6 +34,17 @@ pub fn with_reply(
         actions,
     };
     Called { state, reply }
+}
+
+// Whether none of 8, 7 and 3 refuses: asked first, so that a call that is taken makes no refusal.
+pub fn is_open(room: usize, count: usize, proper: bool, known: bool) -> bool
+    requires { ⌜ count ≤ 32 ⌝ }
+    ensures { λ r. ⌜ r ≡ isOpen room count proper known ⌝ }
+{
+    if room < 56 * (count + 2) {
+        return false;
+    }
+    proper && known
 }
 
 // 8 before a refusal that comes later, or before none.

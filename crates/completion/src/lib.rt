@@ -11,7 +11,7 @@ ghost use Rattle.rules.specs.Walk.{isStopped};
 ghost use Rattle.state.specs.declared.FederateCoordinationState.{FederateCoordinationState as Held};
 ghost use Rattle.state.specs.Cells.{isAbsent};
 ghost use Rattle.state.specs.View.{view, represents};
-ghost use Rattle.state.specs.Decides.{Decides, neatParts};
+ghost use Rattle.state.specs.Decides.{Aside, Decides, neatParts};
 ghost use Rattle.completion.specs.Advance.{Has, Advances, CompletesLeast};
 ghost use Rattle.completion.specs.Changes.{withProbe, isReached, finishedAt, widenedBy, stillAt, completingAt, askingAt, unblockedAt};
 use state::ABSENT;
@@ -107,6 +107,7 @@ fn widened(completion: Completion, tag: Tag, network_input: bool) -> Completion
 pub fn complete(parts: Parts, tag: Tag, network_input: bool) -> Decided
     ensures step { λ r. ⌜ ((e : ℕ) → T (isProper tag) → Decides (completeTagOf e tag «network_input») e parts r) ⌝ }
     ensures neat { λ r. ⌜ (T (isProper tag) → T (neatParts parts) → T (neatParts (r .parts))) ⌝ }
+    ensures aside { λ r. ⌜ Aside parts r ⌝ }
 {
     let c = parts.coordination;
     let k = parts.completion;
@@ -134,6 +135,7 @@ pub fn complete(parts: Parts, tag: Tag, network_input: bool) -> Decided
 pub fn observe_completion(parts: Parts, generation: u64) -> Decided
     ensures step { λ r. ⌜ ((e : ℕ) → Decides (observedOf e generation) e parts r) ⌝ }
     ensures neat { λ r. ⌜ (T (neatParts parts) → T (neatParts (r .parts))) ⌝ }
+    ensures aside { λ r. ⌜ Aside parts r ⌝ }
 {
     let k = parts.completion;
     let probe = k.completion_probe;

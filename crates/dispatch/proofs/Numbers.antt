@@ -1,9 +1,10 @@
 -- The message of a flat form is told by its kind number: so what is shown of that message under the number is shown of every message with the form.
 -- Assumes nothing.
 use mathlib.Core.Path.{_≡_, refl, sym, ap, _∙_, subst}
-use mathlib.Core.Bool.{true, cond}
+use mathlib.Core.Bool.{true, false, cond}
 use Prim.Native.Nat.{ℕ}
 use native.Mathlib.Omega.{arith}
+use borrow.Author.Tests.{ne-eqb}
 use lib.Dec.{T, eqb}
 use Rattle.tags.specs.Tags.{isProper, properIfPresent}
 use Rattle.records.specs.Numbers.{messageNumber}
@@ -21,7 +22,7 @@ use Rattle.state.specs.Cells.{cellOf}
 use Rattle.state.specs.View.{enclaveIn}
 use Rattle.state.specs.Decides.{Decides, neatParts}
 use Rattle.dispatch.specs.declared.Flat.{Flat}
-use Rattle.dispatch.specs.Messages.{Names, callOf, enclaveOf, flatOf}
+use Rattle.dispatch.specs.Messages.{Names, aboutCompletion, callOf, enclaveOf, flatOf}
 
 abbrev messageFrom : Flat → SchedulerMessage
 messageFrom f =
@@ -53,6 +54,13 @@ unknown-but k a b c d f g (message.Failed e) q = g q
 
 pub unknown-zero : (k : ℕ) → k ≡ 0 → Unknown k
 unknown-zero k z = unknown-but k (λ q. omega arith) (λ q. omega arith) (λ q. omega arith) (λ q. omega arith) (λ q. omega arith) (λ q. omega arith)
+
+-- what holds of the kinds about completion need not be shown of another
+pub another-but : {A : Type 0} (k : ℕ) → (k ≡ 3 → ⊥) → (k ≡ 4 → ⊥) → T (aboutCompletion k) → A
+another-but k a b h = absurd (rw (ne-eqb k 3 a, ne-eqb k 4 b) at h)
+
+pub another : {A : Type 0} (k n : ℕ) → k ≡ n → aboutCompletion n ≡ false → T (aboutCompletion k) → A
+another k n q f h = absurd (subst T (ap aboutCompletion q ∙ f) h)
 
 -- r is the first half of m's own rule
 record Own (p : Parts) (r : Decided) (m : SchedulerMessage) : Type 0 where

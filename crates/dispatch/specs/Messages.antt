@@ -1,10 +1,10 @@
 -- Message dispatch (document 01, "message dispatch, choosing by kind number"): the call that a scheduler message is, its flat form with the kind number,
 -- and what the two halves of a message's own rule promise. Assumes nothing.
 use mathlib.Core.Path.{_≡_}
-use mathlib.Core.Bool.{Bool, false}
+use mathlib.Core.Bool.{Bool, false, _||_}
 use mathlib.Core.List.{List, [], _∷_}
 use Prim.Native.Nat.{ℕ}
-use lib.Dec.{T}
+use lib.Dec.{T, eqb}
 use lib.IntN.{ℤ}
 use Rattle.records.specs.Numbers.{messageNumber}
 use Rattle.records.specs.declared.SchedulerMessage.{SchedulerMessage}
@@ -73,6 +73,10 @@ generationOf (message.Failed e) = 0
 
 abbrev pub flatOf : SchedulerMessage → Flat
 flatOf m = record { kind = messageNumber m; enclave = enclaveOf m; tag = tagOf m; «network_input» = networkOf m; generation = generationOf m }
+
+-- the kind numbers of CompleteTag and CompletionObserved, which leave publication, stop and failure alone
+abbrev pub aboutCompletion : ℕ → Bool
+aboutCompletion k = eqb k 3 || eqb k 4
 
 -- the state has these columns and small parts
 pub record Has (s : Held) (ps : List Bool) (ss ns : List ℤ) (ms : List ℕ) (n : ℕ) (c : Coordination) (k : Completion) (g : Gate) (h : Tag) (l : ℕ) : Type 0 where

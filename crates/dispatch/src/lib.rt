@@ -1,7 +1,7 @@
 // Message dispatch (document 01, "message dispatch, choosing by kind number"; state.rs: handle_scheduler, stop, fail): a scheduler message's own rule,
 // in two halves. Nothing is refused here.
 ghost use mathlib.Core.Path.{_≡_};
-ghost use mathlib.Core.Bool.{false};
+ghost use mathlib.Core.Bool.{false, not};
 ghost use Prim.Native.Nat.{ℕ, _≤_};
 ghost use lib.Dec.{T};
 ghost use Rattle.records.specs.declared.SchedulerMessage.{SchedulerMessage};
@@ -10,8 +10,8 @@ ghost use Rattle.rules.specs.Stop.{stopOf, failOf};
 ghost use Rattle.rules.specs.Calls.{facts, allProper, ownStep};
 ghost use Rattle.state.specs.declared.FederateCoordinationState.{FederateCoordinationState as Held};
 ghost use Rattle.state.specs.View.{represents};
-ghost use Rattle.state.specs.Decides.{Decides, neatParts};
-ghost use Rattle.dispatch.specs.Messages.{callOf, flatOf, Names, enclaveOf, Has, Concludes};
+ghost use Rattle.state.specs.Decides.{Aside, Decides, announces, neatParts};
+ghost use Rattle.dispatch.specs.Messages.{callOf, flatOf, Names, enclaveOf, aboutCompletion, Has, Concludes};
 ghost use Rattle.dispatch.specs.Ways.{afterPublication, afterCompletion};
 use completion::Least;
 use publication::Announced;
@@ -156,6 +156,7 @@ pub fn fail(parts: Parts, enclave: OptionalEnclave) -> Decided
 pub fn own_step(flat: Flat, parts: Parts) -> Decided
     ensures step { λ r. ⌜ ((m : SchedulerMessage) (e : ℕ) → flat ≡ flatOf m → Names (enclaveOf m) e → T (allProper (facts (callOf m) .tags)) → Decides (ownStep (callOf m)) e parts r) ⌝ }
     ensures neat { λ r. ⌜ ((m : SchedulerMessage) → flat ≡ flatOf m → T (allProper (facts (callOf m) .tags)) → T (neatParts parts) → T (neatParts (r .parts))) ⌝ }
+    ensures aside { λ r. ⌜ (T (aboutCompletion (flat .kind)) → Aside parts r) ⌝ }
 {
     let kind = flat.kind;
     let enclave = flat.enclave;
@@ -172,6 +173,13 @@ pub fn own_step(flat: Flat, parts: Parts) -> Decided
         6 => fail(parts, enclave),
         0 | 7..=255 => publication::says(parts, 0),
     }
+}
+
+// Whether a message of this kind is about completion alone.
+pub fn is_about_completion(kind: u8) -> bool
+    ensures { λ r. ⌜ r ≡ aboutCompletion kind ⌝ }
+{
+    kind == 3 || kind == 4
 }
 
 // Publish of the pending publication where it is announced.
@@ -228,6 +236,7 @@ pub fn conclude<'a>(
 ) -> Concluded
     requires { ⌜ count ≤ 32 ⌝ }
     ensures { λ r. ⌜ ((s : Held) (e : ℕ) → T (represents s) → Has s (now (published .entry)) (now (seconds .entry)) (now (nanoseconds .entry)) (now (microsteps .entry)) count coordination completion gate horizon lifecycle → Concludes s e next r) ⌝ }
+    ensures aside { λ r. ⌜ (T (not (announces next)) → (r .coordination ≡ coordination) × (r .gate ≡ gate)) ⌝ }
 {
     match next {
         Next::Says(kind) => Concluded {

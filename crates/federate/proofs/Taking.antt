@@ -20,6 +20,8 @@ use Rattle.rules.specs.Calls.{facts, allProper, ownStep, takeStep, isSpent}
 use Rattle.state.specs.declared.FederateCoordinationState.{FederateCoordinationState as Held}
 use Rattle.state.specs.declared.Decided.{Decided}
 use Rattle.state.specs.declared.Row.{Row}
+use Rattle.state.specs.declared.Coordination.{Coordination}
+use Rattle.state.specs.declared.Completion.{Completion}
 use Rattle.state.specs.declared.Parts.{Parts}
 use Rattle.state.specs.View.{view, put, represents}
 use Rattle.state.specs.Parts.{Sized, rowOf, partsOf, rebuilt, cleared, withCoordination, withCompletion, withGate}
@@ -97,7 +99,7 @@ undone s i x w z h q =
       set-back-two 0 (s .microsteps) i (32 + i) (x .candidate .microstep) (x .completed .microstep) (omega arith) (omega arith),
     ) refl
 
--- ---- the observations, cleared or not
+-- ---- the observations, cleared or not, and all that a message about completion leaves alone
 
 module _ (s : Held) (i : ℕ) (d : Decided) (k : Concluded) (a : Advanced) where
   abbrev pub endWith : List ℕ → Held
@@ -108,6 +110,10 @@ module _ (s : Held) (i : ℕ) (d : Decided) (k : Concluded) (a : Advanced) where
 
   pub end-kept : d .forgets ≡ false → endWith (s .observation) ≡ wholeEnd s i d k a
   end-kept e = rw e refl
+
+  pub end-aside : k .coordination ≡ s .coordination → k .gate ≡ s .gate → d .parts .failed ≡ s .failed → d .parts .«first_failure» ≡ s .«first_failure» → d .forgets ≡ false
+      → withCompletion (a .completion) (withRow s i (d .parts .row)) ≡ wholeEnd s i d k a
+  end-aside c g f n e = rw (c, g, f, n, e) refl
 
 pub either : {A B C : Type 0} → (A → C) → (B → C) → A ⊎ B → C
 either f g (inl a) = f a
@@ -141,14 +147,15 @@ module _ (room : List ℕ) (m : SchedulerMessage) (s : Held) (i : ℕ) (n : Ente
         failure = neat-failure s h;
       })
 
-  -- ---- the first half, as `own_step` promises it of the row that was read
+  -- ---- the first half, as `own_step` promises it of the parts that were read
 
-  module _ (f : Flat) (flat : f ≡ flatOf m) (w : Row) (row : w ≡ rowOf s i) (d : Decided) where
+  module _ (f : Flat) (flat : f ≡ flatOf m) (w : Row) (row : w ≡ rowOf s i) (c : Coordination) (coordination : c ≡ s .coordination)
+      (k : Completion) (completion : k ≡ s .completion) (d : Decided) where
     abbrev pub read : Parts
-    read = record { row = w; coordination = s .coordination; completion = s .completion; failed = s .failed; «first_failure» = s .«first_failure» }
+    read = record { row = w; coordination = c; completion = k; failed = s .failed; «first_failure» = s .«first_failure» }
 
     read-is : read ≡ partsOf s i
-    read-is = rw row refl
+    read-is = rw (row, coordination, completion) refl
 
     module _ (steps : (x : SchedulerMessage) (e : ℕ) → f ≡ flatOf x → Names (enclaveOf x) e → T (allProper (facts (callOf x) .tags)) → Decides (ownStep (callOf x)) e read d)
         (keeps : (x : SchedulerMessage) → f ≡ flatOf x → T (allProper (facts (callOf x) .tags)) → T (neatParts read) → T (neatParts (d .parts))) where

@@ -94,8 +94,8 @@ pub fn handle_scheduler(
     let enclave = flat.enclave;
     let proper = tags::proper_if_present(tag);
     let place = place_of(&state.enclaves, count, enclave);
-    let refusal = calls::room_first(room.len(), count, calls::tag_first(proper, place < count));
-    if records::refusal_number(refusal) != 0 {
+    if !calls::is_open(room.len(), count, proper, place < count) {
+        let refusal = calls::room_first(room.len(), count, calls::tag_first(proper, place < count));
         return calls::with_reply(state, refusal, Answer::Silent, 0);
     }
     let row = table::row_at(
@@ -107,10 +107,14 @@ pub fn handle_scheduler(
         &state.microsteps,
         place,
     );
+    let held_coordination = state::coordination_by_fields(coordination);
+    let held_completion = state::completion_by_fields(completion);
+    let held_gate = state::gate_by_fields(gate);
+    let held_horizon = state::tag_by_fields(horizon);
     let parts = Parts {
         row,
-        coordination,
-        completion,
+        coordination: held_coordination,
+        completion: held_completion,
         failed: state.failed,
         first_failure: state.first_failure,
     };
@@ -145,8 +149,8 @@ pub fn handle_scheduler(
         next,
         own_coordination,
         own_completion,
-        gate,
-        horizon,
+        held_gate,
+        held_horizon,
         lifecycle,
     );
     let next_coordination = concluded.coordination;
@@ -160,7 +164,7 @@ pub fn handle_scheduler(
         &state.microsteps,
         count,
         next_coordination.phase,
-        horizon,
+        held_horizon,
         next_completion,
     );
     if advanced.spent {
@@ -185,13 +189,16 @@ pub fn handle_scheduler(
     let next_gate = concluded.gate;
     let last_completion = advanced.completion;
     let said = concluded.said;
-    state.coordination = next_coordination;
     state.completion = last_completion;
-    state.gate = next_gate;
-    state.failed = own.failed;
-    state.first_failure = own.first_failure;
-    if forgets {
-        table::clear(&mut state.observation, count);
+    // A message about completion leaves the rest as it is.
+    if !dispatch::is_about_completion(flat.kind) {
+        state.coordination = next_coordination;
+        state.gate = next_gate;
+        state.failed = own.failed;
+        state.first_failure = own.first_failure;
+        if forgets {
+            table::clear(&mut state.observation, count);
+        }
     }
     let number = state.enclaves[place];
     let one = emission::add_said(room, said, next_coordination, number);

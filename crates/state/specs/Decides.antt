@@ -1,7 +1,7 @@
 -- How a scheduler message's own rule is taken in two halves: first the parts of its enclave and the small parts are stored, then what depends on
 -- the whole table is concluded. What the functions that decide the first half promise. Assumes nothing.
 use mathlib.Core.Path.{_≡_}
-use mathlib.Core.Bool.{Bool, cond, _&&_}
+use mathlib.Core.Bool.{Bool, true, false, not, cond, _&&_}
 use mathlib.Core.List.{List, [], _∷_}
 use Prim.Native.Nat.{ℕ}
 use lib.Dec.{T, eqb}
@@ -44,6 +44,19 @@ neatRow w = isNeat (w .candidate) && isNeat (w .completed) && isZeroUnless (w .a
 abbrev pub neatParts : Parts → Bool
 neatParts p =
     neatRow (p .row) && neatCoordination (p .coordination) && neatCompletion (p .completion) && isZeroUnless (p .failed) (p .«first_failure»)
+
+abbrev pub announces : Next → Bool
+announces (Says k) = false
+announces (Announces resume) = true
+announces Completes = false
+
+-- d leaves alone what messages about publication, stop and failure change
+pub record Aside (p : Parts) (d : Decided) : Type 0 where
+  pub coordination : d .parts .coordination ≡ p .coordination
+  pub failed : d .parts .failed ≡ p .failed
+  pub failure : d .parts .«first_failure» ≡ p .«first_failure»
+  pub forgets : d .forgets ≡ false
+  pub unannounced : T (not (announces (d .next)))
 
 -- a state that a taken call may stand in
 pub record Good (s : Held) : Type 0 where

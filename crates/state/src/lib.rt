@@ -15,11 +15,11 @@ pub const STARTED: usize = 64;
 // Revision, phase, idle authorization and pending publication.
 #[repr(C)]
 pub struct Coordination {
-    pub revision: u64,
     pub phase: u8,
     pub authorized: bool,
-    pub idle_authorization: u64,
     pub pending: bool,
+    pub revision: u64,
+    pub idle_authorization: u64,
     pub pending_revision: u64,
     pub pending_next_event: Tag,
     pub pending_grant_horizon: Tag,
@@ -63,8 +63,8 @@ pub struct FederateCoordinationState {
     pub grant_horizon: Tag,
     // Whether `first_failure` is present.
     pub failed: bool,
-    pub first_failure: u32,
     pub lifecycle: u8,
+    pub first_failure: u32,
 }
 
 // The cells of one participant that a scheduler message can change.
@@ -156,5 +156,63 @@ pub fn without_pending(c: Coordination, phase: u8) -> Coordination
         pending_revision: 0,
         pending_next_event: ABSENT,
         pending_grant_horizon: ABSENT,
+    }
+}
+
+// The parts put together field by field, for a caller that hands them on: of a part copied as a whole, the bytes between its fields are carried along.
+pub fn tag_by_fields(t: Tag) -> Tag
+    ensures { λ r. ⌜ r ≡ t ⌝ }
+{
+    Tag {
+        seconds: t.seconds,
+        nanoseconds: t.nanoseconds,
+        microstep: t.microstep,
+    }
+}
+
+pub fn coordination_by_fields(c: Coordination) -> Coordination
+    ensures { λ r. ⌜ r ≡ c ⌝ }
+{
+    let next_event = c.pending_next_event;
+    let grant_horizon = c.pending_grant_horizon;
+    Coordination {
+        phase: c.phase,
+        authorized: c.authorized,
+        pending: c.pending,
+        revision: c.revision,
+        idle_authorization: c.idle_authorization,
+        pending_revision: c.pending_revision,
+        pending_next_event: tag_by_fields(next_event),
+        pending_grant_horizon: tag_by_fields(grant_horizon),
+    }
+}
+
+pub fn completion_by_fields(k: Completion) -> Completion
+    ensures { λ r. ⌜ r ≡ k ⌝ }
+{
+    let frontier = k.completed_frontier;
+    let first = k.first_input;
+    let last = k.last_input;
+    let probe = k.completion_probe;
+    Completion {
+        completed_frontier: tag_by_fields(frontier),
+        first_input: tag_by_fields(first),
+        last_input: tag_by_fields(last),
+        completion_generation: k.completion_generation,
+        completion_probe: tag_by_fields(probe),
+    }
+}
+
+pub fn gate_by_fields(g: Gate) -> Gate
+    ensures { λ r. ⌜ r ≡ g ⌝ }
+{
+    let input_horizon = g.input_horizon;
+    let stored = g.stored_granted;
+    let granted = g.granted;
+    Gate {
+        input_horizon: tag_by_fields(input_horizon),
+        stored_revision: g.stored_revision,
+        stored_granted: tag_by_fields(stored),
+        granted: tag_by_fields(granted),
     }
 }

@@ -73,7 +73,7 @@ state-fits s vs h =
     let nanoseconds = entries (SInt w32 .own) (SFits w32) (λ z us k. record { sfits = k .1 }) _ (sfits-lit tt) (s .nanoseconds) _ (columns .1 .0 .1 .1) in
     let microsteps = entries (UInt w64 .own) (Fits w64) (λ n us k. record { fits = k .1 }) _ (fits-lit tt) (s .microsteps) _ (columns .1 .1 .0 .1 .1) in
     record {
-      revision = record { fits = parts .0 .1 .1 .0 .1 };
+      revision = record { fits = parts .0 .1 .1 .1 .1 .1 .0 .1 };
       tags = λ k. record { seconds = seconds k; nanoseconds = nanoseconds k; microstep = microsteps k };
       horizon = tag-fits (s .«grant_horizon») _ (parts .1 .1 .1 .0);
       inputHorizon = tag-fits (s .gate .«input_horizon») _ (gate .0);

@@ -94,8 +94,14 @@ passed c =
     let a = start c .args in
     acquire-taken (length (a .room .now)) (a .acquisition .revision) (a .acquisition .granted) (a .t1) (stands (home c)) (none c .0) (none c .1)
 
-decided : (c : tie.After-acquire) → let a = start (c .before) .args in Acquires (a .acquisition .revision) (a .acquisition .granted) (a .t1) (c .acquire .result)
-decided c = c .acquire .ensures (start (c .before) .args .t1) (stands (home (c .before)) .good) (is-so (none (c .before) .1)) refl refl refl
+abbrev past : tie.After-acquire → tie.Else2
+past c = c .before .before .before
+
+decided : (c : tie.After-acquire) → let a = start (past c) .args in Acquires (a .acquisition .revision) (a .acquisition .granted) (a .t1) (c .acquire .result)
+decided c =
+    let g = c .before in
+    c .acquire .ensures (start (past c) .args .t1) (stands (home (past c)) .good) (is-so (none (past c) .1))
+    (sym (g .before .coordination-by-fields .ensures)) (sym (g .gate-by-fields .ensures)) refl
 
 -- ---- 27
 
@@ -165,6 +171,12 @@ returns-2 c =
 
 -- ---- taken: nothing more, or grants
 
+coordination-by-fields-requires : tie.Need-coordination-by-fields-requires
+coordination-by-fields-requires c κs = tt
+
+gate-by-fields-requires : tie.Need-gate-by-fields-requires
+gate-by-fields-requires c κs = tt
+
 acquire-requires : tie.Need-acquire-requires
 acquire-requires c κs = tt
 
@@ -174,7 +186,7 @@ with-reply-requires-3 c κs = tt
 returns-3 : tie.Need-returns-3
 returns-3 c =
     let d = c .before .before .before .before .before .before in
-    let q = d .before in
+    let q = past d in
     let a = start q .args in
     stays-promised (length (a .room .now)) (a .acquisition .revision) (a .acquisition .granted) (a .t1) (stands (home q)) (passed q) (d .acquire .result) (decided d)
     (a .room .now) _ (not-true (d .acquire .result .grants) (c .before .if3 .taken)) (c .with-reply3 .ensures)
@@ -189,7 +201,7 @@ chosen c = c .before .before .before .before .before .before .before .before
 add-grants-requires : tie.Need-add-grants-requires
 add-grants-requires c κs =
     let d = c .before .before .before .before .before .before .before .before .before in
-    let n = stands (home (chosen d .before)) .few in
+    let n = stands (home (past (chosen d))) .few in
     let k = d .add-horizon .ensures .1 in
     omega arith
 
@@ -199,7 +211,7 @@ advanced c = c .before .before .before .before .before .before .before .before .
 unpublished-requires : tie.Need-unpublished-requires
 unpublished-requires c κs =
     let w = c .before .before .before .before .before .before .before in
-    stands (home (chosen (advanced w) .before)) .few
+    stands (home (past (chosen (advanced w)))) .few
 
 with-reply-requires-4 : tie.Need-with-reply-requires-4
 with-reply-requires-4 c κs = tt
@@ -214,7 +226,7 @@ returns-4 c =
     let w = c .before .before .before .before .before .before .before .before .before in
     let f = advanced w in
     let d = chosen f in
-    let q = d .before in
+    let q = past d in
     let a = start q .args in
     moves-promised (length (a .room .now)) (a .acquisition .revision) (a .acquisition .granted) (a .t1) (stands (home q)) (passed q) (d .acquire .result) (decided d)
     (a .room .now) _ _ _ _ _ _ (none q .0) (not-false (d .acquire .result .grants) (f .before .before .before .if3 .left))
@@ -242,6 +254,8 @@ handle-acquisition-spec =
     refusal-number-requires
     with-reply-requires-2
     returns-2
+    coordination-by-fields-requires
+    gate-by-fields-requires
     acquire-requires
     with-reply-requires-3
     returns-3

@@ -1,4 +1,5 @@
 -- `completion::complete` is the first half of `completeTagOf`, and keeps the parts neat: each return by the law of Halves for the tests on its way. Assumes nothing.
+use mathlib.Core.Path.{refl}
 use mathlib.Core.Logic.{⊎-elim}
 use borrow.Author.Tests.{eq-eqb, ne-eqb, not-true, not-false}
 use borrow.Author.Needs.{needs}
@@ -16,7 +17,7 @@ returns c = (
       ⊎-elim (λ w. complete-stopped e _ _ _ (eq-eqb _ 6 (w .taken)))
       (λ w. complete-passed e _ _ _ (ne-eqb _ 6 (w .0 .left)) (is-false (w .1 .ensures) (not-true _ (w .2 .taken))))
       (c .if1 .came),
-  λ t h. h,
+  (λ t h. h, record { coordination = refl; failed = refl; failure = refl; forgets = refl; unannounced = tt }),
 )
 
 widened-requires : tie.Need-widened-requires
@@ -29,7 +30,7 @@ returns-2 c =
     let runs = ne-eqb _ 6 (d .before .if1 .left) in
     let passes = is-true (d .lags .ensures) (not-false _ (c .before .if2 .left)) in (
       λ e t. complete-stores e (a .tag) (a .network-input) (a .parts) _ (c .widened .ensures) t runs passes,
-      complete-neat (a .tag) (a .network-input) (a .parts) _ (c .widened .ensures),
+      (complete-neat (a .tag) (a .network-input) (a .parts) _ (c .widened .ensures), record { coordination = refl; failed = refl; failure = refl; forgets = refl; unannounced = tt }),
     )
 
 pub complete-spec : {M : Type 1} → statement M

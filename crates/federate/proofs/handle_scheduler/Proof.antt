@@ -9,18 +9,18 @@ use mir.Syntax.{w64}
 use mir.Val.{Fits}
 use lib.ListN.{length, getD}
 use borrow.Author.Needs.{needs}
-use borrow.Author.Tests.{ltb-true}
+use borrow.Author.Tests.{ltb-true, not-true, not-false}
 use Rattle.tags.specs.Tags.{properIfPresent}
 use Rattle.rules.specs.Calls.{ownStep, isSound}
 use Rattle.state.specs.declared.FederateCoordinationState.{FederateCoordinationState as Held}
 use Rattle.state.specs.declared.Decided.{Decided}
 use Rattle.state.specs.View.{view, represents}
-use Rattle.state.specs.Parts.{Sized, rowOf, partsOf}
+use Rattle.state.specs.Parts.{Sized, rowOf, partsOf, withCompletion}
 use Rattle.state.specs.Decides.{Decides, halfway, neatParts}
 use Rattle.state.proofs.Rows.{apart}
-use Rattle.calls.specs.Called.{lent, roomFirst}
-use Rattle.calls.proofs.Standing.{sized-by, sound-by-leaves, Standing, standing}
-use Rattle.calls.proofs.Ends.{First, ends-27, ends-first, first-none}
+use Rattle.calls.specs.Called.{lent, isOpen, roomFirst}
+use Rattle.calls.proofs.Standing.{is-so, sized-by, sound-by-leaves, Standing, standing}
+use Rattle.calls.proofs.Ends.{First, ends-27, ends-first, first-shut, open-three}
 use Rattle.completion.specs.Advance.{Advances}
 use Rattle.dispatch.specs.declared.Flat.{Flat}
 use Rattle.dispatch.specs.Messages.{callOf, enclaveOf, tagOf, flatOf, Concludes}
@@ -28,7 +28,7 @@ use Rattle.federate.specs.Places.{placeOf}
 use Rattle.federate.proofs.Message.{takes-room, is-silent, message-proper, sits}
 use Rattle.federate.proofs.Scheduler.{ownEnd, wholeEnd}
 use Rattle.federate.proofs.Refusing.{known-is}
-use Rattle.federate.proofs.Taking.{Enters, either, end-cleared, end-kept, told, told-decided, toldRow, told-row, decides, neat, halfway-holds, own-holds, ends-9, ends-0}
+use Rattle.federate.proofs.Taking.{Enters, either, end-aside, end-cleared, end-kept, told, told-decided, toldRow, told-row, withRow, decides, neat, halfway-holds, own-holds, ends-9, ends-0}
 use Rattle.federate.proofs.handle_scheduler.Statement.{statement}
 use Rattle.federate.proofs.handle_scheduler.Tie as tie
 
@@ -88,7 +88,11 @@ place-is c =
 
 -- the tests of 8, 7 and 3
 abbrev found : tie.After-room-first → tie.After-place-of
-found c = c .before .before
+found c = c .before .before .before .before
+
+open-is : (c : tie.After-is-open) → let a = start (c .before) .args in
+    c .is-open .result ≡ isOpen (length (a .room .now)) (a .t1 .count) (c .before .before .before .before .proper-if-present .result) (ltb (c .before .place-of .result) (a .t1 .count))
+open-is c = c .is-open .ensures
 
 first : (c : tie.After-room-first) → let a = start (found c) .args in
     First (lent (length (a .room .now)) (callOf (a .message))) (a .t1) (found c .before .before .before .proper-if-present .result)
@@ -105,7 +109,7 @@ first c =
 
 -- past 3, where the enclave's place is known
 abbrev seat : tie.Else2 → tie.After-place-of
-seat c = found (c .before .before)
+seat c = c .before .before
 
 abbrev held : tie.Else2 → Held
 held c = start (seat c) .args .t1
@@ -115,9 +119,7 @@ place c = seat c .place-of .result
 
 none : (c : tie.Else2) → (56 * (held c .count + 2) ≤ length (start (seat c) .args .room .now))
     × (seat c .before .before .before .proper-if-present .result ≡ true) × (ltb (place c) (held c .count) ≡ true)
-none c =
-    let a = start (seat c) .args in
-    first-none (lent (length (a .room .now)) (callOf (a .message))) (a .t1) (first (c .before .before)) (sym (c .before .refusal-number .ensures) ∙ c .if2 .left)
+none c = open-three _ _ _ _ (sym (open-is (c .before)) ∙ not-false _ (c .if2 .left))
 
 abbrev EntersAt : tie.Else2 → Type 0
 EntersAt c = Enters (start (seat c) .args .room .now) (start (seat c) .args .message) (held c) (place c)
@@ -163,24 +165,45 @@ offset l = search needs
 
 -- ---- the two halves
 
+-- the parts put together field by field, and the row
+abbrev fields : tie.After-own-step → tie.After-tag-by-fields
+fields c = c .before
+
+abbrev rowed : tie.After-own-step → tie.After-row-at
+rowed c = fields c .before .before .before .before
+
 abbrev home : tie.After-own-step → tie.Else2
-home c = c .before .before .before .before .before .before .before .before .before
+home c = rowed c .before .before .before .before .before .before .before .before
 
 abbrev index : tie.After-own-step → ℕ
 index c = getD (held (home c) .enclaves) (place (home c)) 0
 
-row-is : (c : tie.After-own-step) → c .before .row-at .result ≡ rowOf (held (home c)) (place (home c))
-row-is c = c .before .row-at .ensures
+row-is : (c : tie.After-own-step) → rowed c .row-at .result ≡ rowOf (held (home c)) (place (home c))
+row-is c = rowed c .row-at .ensures
+
+horizon-is : (c : tie.After-own-step) → fields c .tag-by-fields .result ≡ held (home c) .«grant_horizon»
+horizon-is c = fields c .tag-by-fields .ensures
+
+gate-is : (c : tie.After-own-step) → fields c .before .gate-by-fields .result ≡ held (home c) .gate
+gate-is c = fields c .before .gate-by-fields .ensures
+
+completion-is : (c : tie.After-own-step) → fields c .before .before .completion-by-fields .result ≡ held (home c) .completion
+completion-is c = fields c .before .before .completion-by-fields .ensures
+
+coordination-is : (c : tie.After-own-step) → fields c .before .before .before .coordination-by-fields .result ≡ held (home c) .coordination
+coordination-is c = fields c .before .before .before .coordination-by-fields .ensures
 
 flat-is : (c : tie.After-own-step) → seat (home c) .before .before .before .before .flat-of .result ≡ flatOf (start (seat (home c)) .args .message)
 flat-is c = seat (home c) .before .before .before .before .flat-of .ensures
 
 decides-at : (c : tie.After-own-step)
     → Decides (ownStep (callOf (start (seat (home c)) .args .message))) (index c) (partsOf (held (home c)) (place (home c))) (c .own-step .result)
-decides-at c = decides _ _ _ _ (enters (home c)) _ (flat-is c) _ (row-is c) (c .own-step .result) (c .own-step .ensures .0) (c .own-step .ensures .1)
+decides-at c =
+    decides _ _ _ _ (enters (home c)) _ (flat-is c) _ (row-is c) _ (coordination-is c) _ (completion-is c) (c .own-step .result) (c .own-step .ensures .0) (c .own-step .ensures .1 .0)
 
 neat-at : (c : tie.After-own-step) → T (neatParts (c .own-step .result .parts))
-neat-at c = neat _ _ _ _ (enters (home c)) _ (flat-is c) _ (row-is c) (c .own-step .result) (c .own-step .ensures .0) (c .own-step .ensures .1)
+neat-at c =
+    neat _ _ _ _ (enters (home c)) _ (flat-is c) _ (row-is c) _ (coordination-is c) _ (completion-is c) (c .own-step .result) (c .own-step .ensures .0) (c .own-step .ensures .1 .0)
 
 -- what the first half decided, as the columns have it
 abbrev begun : tie.After-struct-told4 → tie.After-own-step
@@ -214,8 +237,8 @@ between c = halfway (held (there c)) (place (there c)) (stored (own c))
 
 concludes-at : (c : tie.After-conclude) → Concludes (between c) (index (begun (own c))) (stored (own c) .next) (c .conclude .result)
 concludes-at c =
-    c .conclude .ensures (between c) (index (begun (own c))) (halfway-holds _ _ _ _ (enters (there c)) (stored (own c)) (neat-so (own c)))
-    (record { published = refl; seconds = refl; nanoseconds = refl; microsteps = refl; count = refl; coordination = refl; completion = refl; gate = refl; horizon = refl; lifecycle = refl })
+    c .conclude .ensures .0 (between c) (index (begun (own c))) (halfway-holds _ _ _ _ (enters (there c)) (stored (own c)) (neat-so (own c)))
+    (record { published = refl; seconds = refl; nanoseconds = refl; microsteps = refl; count = refl; coordination = refl; completion = refl; gate = sym (gate-is (begun (own c))); horizon = sym (horizon-is (begun (own c))); lifecycle = refl })
 
 abbrev done : tie.After-advance-completion → tie.After-conclude
 done c = c .before .before .before .before .before .before .before .before .before .before
@@ -227,21 +250,40 @@ advances-at : (c : tie.After-advance-completion) → Advances (after c) (c .adva
 advances-at c =
     let o = own (done c) in
     c .advance-completion .ensures (after c) (own-holds _ _ _ _ (enters (there (done c))) (stored o) (neat-so o) (decides-so o) (done c .conclude .result) (concludes-at (done c)))
-    (record { published = refl; acknowledged = refl; observed = refl; seconds = refl; nanoseconds = refl; microsteps = refl; count = refl; phase = refl; horizon = refl; completion = refl })
+    (record { published = refl; acknowledged = refl; observed = refl; seconds = refl; nanoseconds = refl; microsteps = refl; count = refl; phase = refl; horizon = sym (horizon-is (begun o)); completion = refl })
+
+-- the completion step, seen from where all is stored
+abbrev stepped : tie.Joined4 → tie.After-advance-completion
+stepped c = c .before .before .before .before .before
 
 -- the state as it is handed back
 abbrev last : tie.Joined4 → Held
 last c =
-    let a = c .before .before .before .before in
+    let a = stepped c in
     wholeEnd (held (there (done a))) (place (there (done a))) (stored (own (done a))) (done a .conclude .result) (a .advance-completion .result)
+
+-- a message about completion left the rest alone
+left-alone : (c : tie.Joined4) → c .before .is-about-completion .result ≡ true
+    → withCompletion (stepped c .advance-completion .result .completion) (withRow (held (there (done (stepped c)))) (place (there (done (stepped c)))) (stored (own (done (stepped c))) .parts .row))
+    ≡ last c
+left-alone c h =
+    let a = stepped c in
+    let d = done a in
+    let o = begun (own d) in
+    let x = o .own-step .ensures .1 .1 (is-so (sym (c .before .is-about-completion .ensures) ∙ h)) in
+    let y = d .conclude .ensures .1 (x .unannounced) in
+    end-aside (held (there d)) (place (there d)) (stored (own d)) (d .conclude .result) (a .advance-completion .result)
+    (y .0 ∙ x .coordination ∙ coordination-is o) (y .1 ∙ gate-is o) (x .failed) (x .failure) (x .forgets)
 
 joined : (c : tie.Joined4) → c .if4 .state ≡ last c
 joined c =
-    let a = c .before .before .before .before in
+    let a = stepped c in
     let d = done a in
     either
-    (λ p. p .3 ∙ end-cleared (held (there d)) (place (there d)) (stored (own d)) (d .conclude .result) (a .advance-completion .result) _ (p .2 .ensures) (p .0 .taken))
-    (λ p. p .1 ∙ end-kept (held (there d)) (place (there d)) (stored (own d)) (d .conclude .result) (a .advance-completion .result) (p .0 .left))
+    (λ p. p .4 ∙ end-cleared (held (there d)) (place (there d)) (stored (own d)) (d .conclude .result) (a .advance-completion .result) _ (p .3 .ensures) (p .1 .taken))
+    (either
+    (λ p. p .2 ∙ end-kept (held (there d)) (place (there d)) (stored (own d)) (d .conclude .result) (a .advance-completion .result) (p .1 .left))
+    (λ p. p .1 ∙ left-alone c (not-false _ (p .0 .left))))
     (c .if4 .came)
 
 -- ---- the needs
@@ -296,28 +338,40 @@ place-of-requires c κs =
     let st = stands b in
     (st .few, apart (entry (b .before) .args .t1) (st .ascends))
 
+is-open-requires : tie.Need-is-open-requires
+is-open-requires c κs = stands (base c) .few
+
 tag-first-requires : tie.Need-tag-first-requires
 tag-first-requires c κs = tt
 
 room-first-requires : tie.Need-room-first-requires
-room-first-requires c κs = stands (base (c .before)) .few
-
-refusal-number-requires : tie.Need-refusal-number-requires
-refusal-number-requires c κs = tt
+room-first-requires c κs = stands (base (c .before .before .before)) .few
 
 with-reply-requires-2 : tie.Need-with-reply-requires-2
 with-reply-requires-2 c κs = tt
 
 returns-2 : tie.Need-returns-2
 returns-2 c =
-    let n = c .before .before in
-    let f = n .before in
+    let f = c .before in
     let a = start (found f) .args in
-    ends-first (lent (length (a .room .now)) (callOf (a .message))) (a .t1) (first f) (a .room .now) (is-silent (a .message) (view (a .t1))) (stands (base (found f)) .passing)
-    (λ z. c .before .if2 .taken (n .refusal-number .ensures ∙ z)) (c .with-reply2 .ensures)
+    let g = lent (length (a .room .now)) (callOf (a .message)) in
+    ends-first g (a .t1) (first f) (a .room .now) (is-silent (a .message) (view (a .t1))) (stands (base (found f)) .passing)
+    (first-shut g (a .t1) (first f) (sym (open-is (f .before .before .before)) ∙ not-true _ (f .before .before .if2 .taken))) (c .with-reply2 .ensures)
 
 row-at-requires : tie.Need-row-at-requires
 row-at-requires c κs = near (c .before .before .before .before .before .before .before)
+
+coordination-by-fields-requires : tie.Need-coordination-by-fields-requires
+coordination-by-fields-requires c κs = tt
+
+completion-by-fields-requires : tie.Need-completion-by-fields-requires
+completion-by-fields-requires c κs = tt
+
+gate-by-fields-requires : tie.Need-gate-by-fields-requires
+gate-by-fields-requires c κs = tt
+
+tag-by-fields-requires : tie.Need-tag-by-fields-requires
+tag-by-fields-requires c κs = tt
 
 own-step-requires : tie.Need-own-step-requires
 own-step-requires c κs = tt
@@ -434,26 +488,31 @@ returns-3 : tie.Need-returns-3
 returns-3 c =
     let a = c .before .before .before .before .before .before .before .before in
     let d = done a in
-    let w = begun (own d) .before .row-at .result in
+    let w = rowed (begun (own d)) .row-at .result in
     ends-9 _ _ _ _ (enters (there d)) (stored (own d)) (neat-so (own d)) (decides-so (own d)) (d .conclude .result) (concludes-at d) (a .advance-completion .result) (advances-at a) _
     (c .before .before .before .before .before .before .before .if3 .taken) (stored (own d) .parts .row) (toldRow w)
     (told-row w (search (needs, c .before .before .before .before .struct-told5 .given), search (needs, c .before .before .before .struct-told6 .given)) (search (needs, c .before .before .struct-told7 .given), search (needs, c .before .struct-told8 .given)) ∙ row-is (begun (own d)))
     (c .with-reply3 .ensures)
 
+is-about-completion-requires : tie.Need-is-about-completion-requires
+is-about-completion-requires c κs = tt
+
 clear-requires : tie.Need-clear-requires
-clear-requires c κs = few (there (done (c .before .before .before .before .before)))
+clear-requires c κs = few (there (done (c .before .before .before .before .before .before .before)))
 
 mul-number : tie.Need-mul-number
-mul-number c = fours (in-begun (near (there (done (c .before .before .before .before)))))
+mul-number c = fours (in-begun (near (there (done (stepped c)))))
 
 element-copy-out-number : tie.Need-element-copy-out-number
-element-copy-out-number c = near (there (done (c .before .before .before .before)))
+element-copy-out-number c = near (there (done (stepped c)))
 
 add-said-requires : tie.Need-add-said-requires
 add-said-requires c κs = tt
 
 add-saying-requires : tie.Need-add-saying-requires
-add-saying-requires c κs = (c .before .before .before .before .before .before .before .before .add-said .ensures .1, few (there (done (c .before .before .before .before .before .before .before .before .before .before .before .before .before .before .before))))
+add-saying-requires c κs =
+    let o = c .before .before .before .before .before .before .before .before in
+    (o .add-said .ensures .1, few (there (done (stepped (o .before .before .before)))))
 
 with-reply-requires-4 : tie.Need-with-reply-requires-4
 with-reply-requires-4 c κs = tt
@@ -466,7 +525,7 @@ returns-4 c =
     let w = c .before .before .before in
     let o = w .before .before .before .before .before .before .before .before .before in
     let j = o .before .before .before in
-    let f = j .before .before .before in
+    let f = j .before .before .before .before in
     let a = f .before in
     let d = done a in
     ends-0 _ _ _ _ (enters (there d)) (stored (own d)) (neat-so (own d)) (decides-so (own d)) (d .conclude .result) (concludes-at d) (a .advance-completion .result) (advances-at a) _
@@ -491,12 +550,16 @@ handle-scheduler-spec =
     flat-of-requires
     proper-if-present-requires
     place-of-requires
+    is-open-requires
     tag-first-requires
     room-first-requires
-    refusal-number-requires
     with-reply-requires-2
     returns-2
     row-at-requires
+    coordination-by-fields-requires
+    completion-by-fields-requires
+    gate-by-fields-requires
+    tag-by-fields-requires
     own-step-requires
     element-write-state
     element-write-state-2
@@ -535,6 +598,7 @@ handle-scheduler-spec =
     element-write-state-10
     with-reply-requires-3
     returns-3
+    is-about-completion-requires
     clear-requires
     mul-number
     element-copy-out-number
