@@ -10,11 +10,10 @@ use Rattle.rules.specs.Model.{Tag}
 use Rattle.state.specs.declared.FederateCoordinationState.{FederateCoordinationState as Held}
 use Rattle.state.specs.declared.Coordination.{Coordination}
 use Rattle.state.specs.declared.Completion.{Completion}
-use Rattle.state.specs.declared.Gate.{Gate}
 use Rattle.state.specs.declared.Next.the-variants.{Announces, Completes, Says}
 use Rattle.state.specs.View.{represents}
 use Rattle.state.specs.Decides.{conclusion}
-use Rattle.state.proofs.Neat.{neat-completion, neat-coordination, neat-gate}
+use Rattle.state.proofs.Neat.{neat-completion, neat-coordination}
 use Rattle.completion.specs.declared.Least.{Least}
 use Rattle.completion.specs.Advance.{CompletesLeast}
 use Rattle.publication.specs.declared.Announced.{Announced}
@@ -30,48 +29,42 @@ said-if e true a c = refl
 said-if e false a c = refl
 
 module _ (s : Held) (e : ℕ) (whole : T (represents s)) where
-  says-own : (k : ℕ) → Concludes s e (Says k) (record { coordination = s .coordination; completion = s .completion; gate = s .gate; said = Kind k })
+  says-own : (k : ℕ) → Concludes s e (Says k) (record { coordination = s .coordination; completion = s .completion; drops = false; said = Kind k })
   unfolding conclusion
   says-own k = record {
     step = refl;
-    granted = refl;
     coordination = neat-coordination s whole;
     completion = neat-completion s whole;
-    gate = neat-gate s whole;
   }
 
   announces-own : (resume : Bool) (a : Announced) → announce.Announces s a → Concludes s e (Announces resume) (afterPublication a (s .completion) resume)
   unfolding conclusion
   announces-own resume a h = record {
     step = rw (← said-if e (a .announces) (Announcement resume) (a .coordination)) (h .step e resume);
-    granted = h .granted;
     coordination = h .neat;
     completion = neat-completion s whole;
-    gate = h .tidy;
   }
 
-  completes-own : (l : Least) → CompletesLeast s l → Concludes s e Completes (afterCompletion l (s .coordination) (s .gate))
+  completes-own : (l : Least) → CompletesLeast s l → Concludes s e Completes (afterCompletion l (s .coordination))
   unfolding conclusion
   completes-own l h = record {
     step = rw (← said-if e (l .completes) (Completing (l .tag) (l .mark)) (s .coordination)) (h .step);
-    granted = refl;
     coordination = neat-coordination s whole;
     completion = h .neat;
-    gate = neat-gate s whole;
   }
 
 -- ---- in every state that has what was given
 
-module _ (ps : List Bool) (ss ns : List ℤ) (ms : List ℕ) (n : ℕ) (c : Coordination) (k : Completion) (g : Gate) (h : Tag) (l : ℕ)
-    (s : Held) (e : ℕ) (whole : T (represents s)) (has : Has s ps ss ns ms n c k g h l) where
-  pub concludes-says : (a : ℕ) → Concludes s e (Says a) (record { coordination = c; completion = k; gate = g; said = Kind a })
-  concludes-says a = rw (← has .coordination, ← has .completion, ← has .gate) (says-own s e whole a)
+module _ (ps : List Bool) (ss ns : List ℤ) (ms : List ℕ) (n : ℕ) (c : Coordination) (k : Completion) (h : Tag) (l : ℕ)
+    (s : Held) (e : ℕ) (whole : T (represents s)) (has : Has s ps ss ns ms n c k h l) where
+  pub concludes-says : (a : ℕ) → Concludes s e (Says a) (record { coordination = c; completion = k; drops = false; said = Kind a })
+  concludes-says a = rw (← has .coordination, ← has .completion) (says-own s e whole a)
 
-  pub concludes-announces : (resume : Bool) (a : Announced) → ((z : Held) → T (represents z) → announce.Has z ps ss ns ms n c g h l → announce.Announces z a)
+  pub concludes-announces : (resume : Bool) (a : Announced) → ((z : Held) → T (represents z) → announce.Has z ps ss ns ms n c h l → announce.Announces z a)
       → Concludes s e (Announces resume) (afterPublication a k resume)
   concludes-announces resume a p = rw (← has .completion) (announces-own s e whole resume a (p s whole given))
     where
-      given : announce.Has s ps ss ns ms n c g h l
+      given : announce.Has s ps ss ns ms n c h l
       given = record {
         published = has .published;
         seconds = has .seconds;
@@ -79,14 +72,13 @@ module _ (ps : List Bool) (ss ns : List ℤ) (ms : List ℕ) (n : ℕ) (c : Coor
         microsteps = has .microsteps;
         count = has .count;
         coordination = has .coordination;
-        gate = has .gate;
         horizon = has .horizon;
         lifecycle = has .lifecycle;
       }
 
   pub concludes-completes : (a : Least)
       → ((z : Held) → T (represents z) → z .seconds ≡ ss → z .nanoseconds ≡ ns → z .microsteps ≡ ms → z .count ≡ n → z .completion ≡ k → CompletesLeast z a)
-      → Concludes s e Completes (afterCompletion a c g)
+      → Concludes s e Completes (afterCompletion a c)
   concludes-completes a p =
-      rw (← has .coordination, ← has .gate)
+      rw (← has .coordination)
       (completes-own s e whole a (p s whole (has .seconds) (has .nanoseconds) (has .microsteps) (has .count) (has .completion)))

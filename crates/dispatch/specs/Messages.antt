@@ -13,13 +13,12 @@ use Rattle.rules.specs.Model.{Tag, OptionalTag, NoTag, At, OptionalEnclave, NoE
 use Rattle.state.specs.declared.FederateCoordinationState.{FederateCoordinationState as Held}
 use Rattle.state.specs.declared.Coordination.{Coordination}
 use Rattle.state.specs.declared.Completion.{Completion}
-use Rattle.state.specs.declared.Gate.{Gate}
 use Rattle.state.specs.declared.Next.{Next}
-use Rattle.state.specs.View.{view, neatCoordination, neatCompletion, neatGate}
+use Rattle.state.specs.View.{view, neatCoordination, neatCompletion}
 use Rattle.state.specs.Parts.{withCoordination, withCompletion, withGate}
 use Rattle.state.specs.Decides.{conclusion, saidOf}
 use Rattle.completion.specs.Advance.{completeAction}
-use Rattle.publication.specs.Announce.{announcement}
+use Rattle.publication.specs.Announce.{announcement, droppedIf}
 use Rattle.dispatch.specs.declared.Flat.{Flat}
 use Rattle.dispatch.specs.declared.Said.{Said}
 use Rattle.dispatch.specs.declared.Said.the-variants.{Kind, Announcement, Completion as Completing}
@@ -79,7 +78,7 @@ abbrev pub aboutCompletion : ℕ → Bool
 aboutCompletion k = eqb k 3 || eqb k 4
 
 -- the state has these columns and small parts
-pub record Has (s : Held) (ps : List Bool) (ss ns : List ℤ) (ms : List ℕ) (n : ℕ) (c : Coordination) (k : Completion) (g : Gate) (h : Tag) (l : ℕ) : Type 0 where
+pub record Has (s : Held) (ps : List Bool) (ss ns : List ℤ) (ms : List ℕ) (n : ℕ) (c : Coordination) (k : Completion) (h : Tag) (l : ℕ) : Type 0 where
   pub published : s .published ≡ ps
   pub seconds : s .seconds ≡ ss
   pub nanoseconds : s .nanoseconds ≡ ns
@@ -87,7 +86,6 @@ pub record Has (s : Held) (ps : List Bool) (ss ns : List ℤ) (ms : List ℕ) (n
   pub count : s .count ≡ n
   pub coordination : s .coordination ≡ c
   pub completion : s .completion ≡ k
-  pub gate : s .gate ≡ g
   pub horizon : s .«grant_horizon» ≡ h
   pub lifecycle : s .lifecycle ≡ l
 
@@ -99,8 +97,6 @@ actionsOf e (Completing f mark) c = completeAction f mark ∷ []
 
 -- c concludes the own rule of enclave e's message in s
 pub record Concludes (s : Held) (e : ℕ) (n : Next) (c : Concluded) : Type 0 where
-  pub step : conclusion e n (view s) ≡ record { state = view (withGate (c .gate) (withCompletion (c .completion) (withCoordination (c .coordination) s))); actions = actionsOf e (c .said) (c .coordination) }
-  pub granted : c .gate .granted ≡ s .gate .granted
+  pub step : conclusion e n (view s) ≡ record { state = view (withGate (droppedIf (c .drops) (s .gate)) (withCompletion (c .completion) (withCoordination (c .coordination) s))); actions = actionsOf e (c .said) (c .coordination) }
   pub coordination : T (neatCoordination (c .coordination))
   pub completion : T (neatCompletion (c .completion))
-  pub gate : T (neatGate (c .gate))

@@ -21,7 +21,6 @@ use records::SchedulerMessage;
 use state::Completion;
 use state::Coordination;
 use state::Decided;
-use state::Gate;
 use state::Next;
 use state::Parts;
 use tags::OptionalTag;
@@ -50,7 +49,8 @@ pub enum Said {
 pub struct Concluded {
     pub coordination: Coordination,
     pub completion: Completion,
-    pub gate: Gate,
+    // Whether the stored acquisition is dropped.
+    pub drops: bool,
     pub said: Said,
 }
 
@@ -187,8 +187,8 @@ fn with_publication(announced: Announced, completion: Completion, resumes: bool)
     ensures { λ r. ⌜ r ≡ afterPublication announced completion resumes ⌝ }
 {
     let coordination = announced.coordination;
-    let gate = announced.gate;
-    let said = if announced.announces {
+    let drops = announced.announces;
+    let said = if drops {
         Said::Announcement(resumes)
     } else {
         Said::Kind(0)
@@ -196,14 +196,14 @@ fn with_publication(announced: Announced, completion: Completion, resumes: bool)
     Concluded {
         coordination,
         completion,
-        gate,
+        drops,
         said,
     }
 }
 
 // Complete of the least completed tag where it completes.
-fn with_completion(least: Least, coordination: Coordination, gate: Gate) -> Concluded
-    ensures { λ r. ⌜ r ≡ afterCompletion least coordination gate ⌝ }
+fn with_completion(least: Least, coordination: Coordination) -> Concluded
+    ensures { λ r. ⌜ r ≡ afterCompletion least coordination ⌝ }
 {
     let completion = least.completion;
     let tag = least.tag;
@@ -215,7 +215,7 @@ fn with_completion(least: Least, coordination: Coordination, gate: Gate) -> Conc
     Concluded {
         coordination,
         completion,
-        gate,
+        drops: false,
         said,
     }
 }
@@ -230,19 +230,18 @@ pub fn conclude<'a>(
     next: Next,
     coordination: Coordination,
     completion: Completion,
-    gate: Gate,
     horizon: Tag,
     lifecycle: u8,
 ) -> Concluded
     requires { ⌜ count ≤ 32 ⌝ }
-    ensures { λ r. ⌜ ((s : Held) (e : ℕ) → T (represents s) → Has s (now (published .entry)) (now (seconds .entry)) (now (nanoseconds .entry)) (now (microsteps .entry)) count coordination completion gate horizon lifecycle → Concludes s e next r) ⌝ }
-    ensures aside { λ r. ⌜ (T (not (announces next)) → (r .coordination ≡ coordination) × (r .gate ≡ gate)) ⌝ }
+    ensures { λ r. ⌜ ((s : Held) (e : ℕ) → T (represents s) → Has s (now (published .entry)) (now (seconds .entry)) (now (nanoseconds .entry)) (now (microsteps .entry)) count coordination completion horizon lifecycle → Concludes s e next r) ⌝ }
+    ensures aside { λ r. ⌜ (T (not (announces next)) → (r .coordination ≡ coordination) × (r .drops ≡ false)) ⌝ }
 {
     match next {
         Next::Says(kind) => Concluded {
             coordination,
             completion,
-            gate,
+            drops: false,
             said: Said::Kind(kind),
         },
         Next::Announces(resumes) => {
@@ -253,7 +252,6 @@ pub fn conclude<'a>(
                 microsteps,
                 count,
                 coordination,
-                gate,
                 horizon,
                 lifecycle,
             );
@@ -267,7 +265,7 @@ pub fn conclude<'a>(
                 count,
                 completion,
             );
-            with_completion(least, coordination, gate)
+            with_completion(least, coordination)
         }
     }
 }

@@ -18,6 +18,8 @@ use Rattle.state.specs.Parts.{partsOf, withCoordination, withCompletion, withGa
 use Rattle.state.specs.Decides.{Good, Decides, neatParts, halfway}
 use Rattle.state.proofs.Neat.{count-bounds, neat-gate, neat-rebuilt, neat-with-coordination, neat-with-completion, neat-with-gate}
 use Rattle.state.proofs.Put.{Beyond, beyond-rebuilt, beyond-trans, beyond-sized, beyond-columns}
+use Rattle.publication.specs.Announce.{droppedIf}
+use Rattle.publication.proofs.Announcing.{dropped-neat}
 use Rattle.completion.specs.Advance.{sayings, Advances}
 use Rattle.completion.specs.declared.Advanced.{Advanced}
 use Rattle.dispatch.specs.Messages.{callOf, enclaveOf, tagOf, actionsOf, Concludes}
@@ -26,7 +28,7 @@ use Rattle.federate.proofs.Message.{is-message, message-proper, Sits}
 
 -- the state after the message's own rule
 abbrev pub ownEnd : Held → ℕ → Decided → Concluded → Held
-ownEnd s i d k = withGate (k .gate) (withCompletion (k .completion) (withCoordination (k .coordination) (halfway s i d)))
+ownEnd s i d k = withGate (droppedIf (k .drops) (s .gate)) (withCompletion (k .completion) (withCoordination (k .coordination) (halfway s i d)))
 
 -- the state after the completion step
 abbrev pub wholeEnd : Held → ℕ → Decided → Concluded → Advanced → Held
@@ -56,7 +58,7 @@ module _ (s : Held) (m : SchedulerMessage) (i : ℕ) (d : Decided) (k : Conclude
       let c = withCoordination (k .coordination) h in
       let p = neat-with-coordination h (halfway-neat s i d good (place .seat .within) neat) (k .coordination) (concludes .coordination) in
       let q = neat-with-completion c p (k .completion) (concludes .completion) in
-      neat-with-gate (withCompletion (k .completion) c) q (k .gate) (concludes .gate)
+      neat-with-gate (withCompletion (k .completion) c) q (droppedIf (k .drops) (s .gate)) (dropped-neat (k .drops) (s .gate) (neat-gate s (good .neat)))
 
   pub own-good : Good (ownEnd s i d k)
   own-good = record {

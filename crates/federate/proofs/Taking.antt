@@ -22,11 +22,13 @@ use Rattle.state.specs.declared.Decided.{Decided}
 use Rattle.state.specs.declared.Row.{Row}
 use Rattle.state.specs.declared.Coordination.{Coordination}
 use Rattle.state.specs.declared.Completion.{Completion}
+use Rattle.state.specs.declared.Gate.{Gate}
 use Rattle.state.specs.declared.Parts.{Parts}
 use Rattle.state.specs.View.{view, put, represents}
 use Rattle.state.specs.Parts.{Sized, rowOf, partsOf, rebuilt, cleared, withCoordination, withCompletion, withGate}
 use Rattle.state.specs.Decides.{Good, Decides, halfway, neatParts}
 use Rattle.state.proofs.Neat.{place-parts, neat-place, neat-coordination, neat-completion, neat-failure}
+use Rattle.publication.specs.Announce.{droppedOf}
 use Rattle.publication.proofs.Neat.{parts-whole, row-whole}
 use Rattle.calls.specs.Called.{lent, refusalOf, replied}
 use Rattle.calls.specs.declared.Called.{Called}
@@ -99,21 +101,53 @@ undone s i x w z h q =
       set-back-two 0 (s .microsteps) i (32 + i) (x .candidate .microstep) (x .completed .microstep) (omega arith) (omega arith),
     ) refl
 
--- ---- the observations, cleared or not, and all that a message about completion leaves alone
+-- ---- the end in the order of the stores
+
+abbrev pub withObservation : List ℕ → Held → Held
+withObservation o s = record {
+  count = s .count;
+  enclaves = s .enclaves;
+  published = s .published;
+  observation = o;
+  acknowledged = s .acknowledged;
+  «completion_observed» = s .«completion_observed»;
+  seconds = s .seconds;
+  nanoseconds = s .nanoseconds;
+  microsteps = s .microsteps;
+  coordination = s .coordination;
+  completion = s .completion;
+  gate = s .gate;
+  «grant_horizon» = s .«grant_horizon»;
+  failed = s .failed;
+  lifecycle = s .lifecycle;
+  «first_failure» = s .«first_failure»;
+}
 
 module _ (s : Held) (i : ℕ) (d : Decided) (k : Concluded) (a : Advanced) where
-  abbrev pub endWith : List ℕ → Held
-  endWith o = withCompletion (a .completion) (withGate (k .gate) (withCompletion (k .completion) (withCoordination (k .coordination) (rebuilt s i (d .parts) o (s .gate)))))
+  -- before the observations and the gate
+  abbrev pub storedEnd : Held
+  storedEnd = withCompletion (a .completion) (withCoordination (k .coordination) (rebuilt s i (d .parts) (s .observation) (s .gate)))
 
-  pub end-cleared : (o : List ℕ) → o ≡ cleared (s .count) (s .observation) → d .forgets ≡ true → endWith o ≡ wholeEnd s i d k a
-  end-cleared o h e = rw (h, e) refl
+  -- a message about completion leaves the rest alone
+  pub end-aside : k .coordination ≡ s .coordination → d .parts .failed ≡ s .failed → d .parts .«first_failure» ≡ s .«first_failure»
+      → withCompletion (a .completion) (withRow s i (d .parts .row)) ≡ storedEnd
+  end-aside c f n = rw (c, f, n) refl
 
-  pub end-kept : d .forgets ≡ false → endWith (s .observation) ≡ wholeEnd s i d k a
+  -- before the gate
+  abbrev pub observedEnd : Held
+  observedEnd = withCompletion (a .completion) (withCoordination (k .coordination) (halfway s i d))
+
+  pub end-cleared : (t : Held) → t ≡ storedEnd → (o : List ℕ) → o ≡ cleared (s .count) (t .observation) → d .forgets ≡ true → withObservation o t ≡ observedEnd
+  end-cleared t q o h e = rw (h, q, e) refl
+
+  pub end-kept : d .forgets ≡ false → storedEnd ≡ observedEnd
   end-kept e = rw e refl
 
-  pub end-aside : k .coordination ≡ s .coordination → k .gate ≡ s .gate → d .parts .failed ≡ s .failed → d .parts .«first_failure» ≡ s .«first_failure» → d .forgets ≡ false
-      → withCompletion (a .completion) (withRow s i (d .parts .row)) ≡ wholeEnd s i d k a
-  end-aside c g f n e = rw (c, g, f, n, e) refl
+  pub end-dropped : (t : Held) → t ≡ observedEnd → (g : Gate) → g ≡ droppedOf (t .gate) → k .drops ≡ true → withGate g t ≡ wholeEnd s i d k a
+  end-dropped t q g h e = rw (h, q, e) refl
+
+  pub end-held : k .drops ≡ false → observedEnd ≡ wholeEnd s i d k a
+  end-held e = rw e refl
 
 pub either : {A B C : Type 0} → (A → C) → (B → C) → A ⊎ B → C
 either f g (inl a) = f a
@@ -217,13 +251,13 @@ module _ (room : List ℕ) (m : SchedulerMessage) (s : Held) (i : ℕ) (n : Ente
                 add-then said later room room₁ room₂ 0 one two own (subst (λ (l : List CoordinationAction). Adds l room₁ one room₂ two) (said-by (ownEnd s i d k) (a .saying) a) after)
                 room [] (none-written room) (let z = fits in let y = n .wide in omega arith)
 
-        -- whatever the state handed back is called
-        pub ends-0 : a .spent ≡ false → (t : Held) → t ≡ wholeEnd s i d k a → (room₁ room₂ : List ℕ) (one two : ℕ)
-            → Adds (actionsOf (getD (t .enclaves) i 0) (k .said) (k .coordination)) room 0 room₁ one
-            → Adds (saidBy (t .enclaves) (t .seconds) (t .nanoseconds) (t .microsteps) (s .count) (a .saying) a) room₁ one room₂ two
+        -- whatever the state is called that was stored before the records were written, and the one handed back
+        pub ends-0 : a .spent ≡ false → (u : Held) → u ≡ storedEnd s i d k a → (t : Held) → t ≡ wholeEnd s i d k a → (room₁ room₂ : List ℕ) (one two : ℕ)
+            → Adds (actionsOf (getD (u .enclaves) i 0) (k .said) (k .coordination)) room 0 room₁ one
+            → Adds (saidBy (u .enclaves) (u .seconds) (u .nanoseconds) (u .microsteps) (s .count) (a .saying) a) room₁ one room₂ two
             → r ≡ replied t Taken Silent two → Ends (lent (length room) (callOf m)) s r room room₂
-        ends-0 free t z room₁ room₂ one two own after q =
+        ends-0 free u y t z room₁ room₂ one two own after q =
             ends-so free room₁ room₂ one two
-            (subst (λ (x : Held). Adds (actionsOf (getD (x .enclaves) i 0) (k .said) (k .coordination)) room 0 room₁ one) z own)
-            (subst (λ (x : Held). Adds (saidBy (x .enclaves) (x .seconds) (x .nanoseconds) (x .microsteps) (s .count) (a .saying) a) room₁ one room₂ two) z after)
+            (subst (λ (x : Held). Adds (actionsOf (getD (x .enclaves) i 0) (k .said) (k .coordination)) room 0 room₁ one) y own)
+            (subst (λ (x : Held). Adds (saidBy (x .enclaves) (x .seconds) (x .nanoseconds) (x .microsteps) (s .count) (a .saying) a) room₁ one room₂ two) y after)
             (q ∙ ap (λ (x : Held). replied x Taken Silent two) z)

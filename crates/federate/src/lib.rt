@@ -109,7 +109,6 @@ pub fn handle_scheduler(
     );
     let held_coordination = state::coordination_by_fields(coordination);
     let held_completion = state::completion_by_fields(completion);
-    let held_gate = state::gate_by_fields(gate);
     let held_horizon = state::tag_by_fields(horizon);
     let parts = Parts {
         row,
@@ -149,7 +148,6 @@ pub fn handle_scheduler(
         next,
         own_coordination,
         own_completion,
-        held_gate,
         held_horizon,
         lifecycle,
     );
@@ -186,19 +184,14 @@ pub fn handle_scheduler(
         return calls::with_reply(state, Refusal::GenerationSpent, Answer::Silent, 0);
     }
     let forgets = decided.forgets;
-    let next_gate = concluded.gate;
     let last_completion = advanced.completion;
     let said = concluded.said;
     state.completion = last_completion;
     // A message about completion leaves the rest as it is.
     if !dispatch::is_about_completion(flat.kind) {
         state.coordination = next_coordination;
-        state.gate = next_gate;
         state.failed = own.failed;
         state.first_failure = own.first_failure;
-        if forgets {
-            table::clear(&mut state.observation, count);
-        }
     }
     let number = state.enclaves[place];
     let one = emission::add_said(room, said, next_coordination, number);
@@ -212,5 +205,12 @@ pub fn handle_scheduler(
         count,
         advanced,
     );
+    if forgets {
+        table::clear(&mut state.observation, count);
+    }
+    if concluded.drops {
+        let held_gate = state.gate;
+        state.gate = publication::dropped(held_gate);
+    }
     calls::with_reply(state, Refusal::Taken, Answer::Silent, total)
 }

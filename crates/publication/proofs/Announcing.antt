@@ -16,14 +16,14 @@ use Rattle.state.specs.declared.FederateCoordinationState.{FederateCoordination
 use Rattle.state.specs.declared.Coordination.{Coordination}
 use Rattle.state.specs.declared.Gate.{Gate}
 use Rattle.state.specs.Walk.{allOf, leastFrom}
-use Rattle.state.specs.Cells.{absent, cellOf, isNeat, optionalOf, policyOf, tagIn}
-use Rattle.state.specs.View.{view, represents}
+use Rattle.state.specs.Cells.{cellOf, isNeat, optionalOf, policyOf, tagIn}
+use Rattle.state.specs.View.{view, neatGate, represents}
 use Rattle.state.specs.Parts.{withCoordination, withGate}
 use Rattle.state.proofs.Round.{number-phase, phase-below}
 use Rattle.state.proofs.Kept.{least-kept, kept-neat}
 use Rattle.state.proofs.Rows.{all-rows, least-rows, neat-cell}
-use Rattle.state.proofs.Neat.{coordination-parts, coordination-whole, gate-parts, gate-whole, neat-coordination, neat-gate, neat-horizon}
-use Rattle.publication.specs.Announce.{Announces, Has, announcement}
+use Rattle.state.proofs.Neat.{coordination-parts, coordination-whole, gate-parts, gate-whole, neat-coordination, neat-horizon}
+use Rattle.publication.specs.Announce.{Announces, Has, announcement, droppedIf, droppedOf}
 
 -- ---- the phase by its number
 
@@ -51,8 +51,16 @@ withPending c p t h = record {
 abbrev announced : Coordination → Tag → Tag → ℕ → Coordination
 announced c t h l = withPending c (phaseNumber (idlePhase (optionalOf t) (policyOf l))) t h
 
-abbrev droppedOf : Gate → Gate
-droppedOf g = record { «input_horizon» = g .«input_horizon»; «stored_revision» = 0; «stored_granted» = absent; granted = g .granted }
+-- the gate with nothing stored is as neat
+pub dropped-neat : (b : Bool) (g : Gate) → T (neatGate g) → T (neatGate (droppedIf b g))
+dropped-neat false g h = h
+dropped-neat true g h =
+    gate-whole (droppedOf g) (record {
+      inputHorizon = gate-parts g h .inputHorizon;
+      granted = gate-parts g h .granted;
+      stored = neat-cell NoTag tt;
+      revision = tt;
+    })
 
 module _ (s : Held) (whole : T (represents s)) where
   announced-step : (e : ℕ) (resume : Bool) (t : Tag) → optionalOf t ≡ leastCandidate (view s)
@@ -61,30 +69,21 @@ module _ (s : Held) (whole : T (represents s)) where
   announced-step e resume t h = rw (← h, number-phase, probes) refl
 
   announces-none : (x : Bool) → x ≡ allOf (λ j. getD (s .published) j false) 0 (s .count) → x ≡ false
-      → Announces s (record { announces = false; coordination = s .coordination; gate = s .gate })
+      → Announces s (record { announces = false; coordination = s .coordination })
   announces-none x asked h = record {
     step = λ e resume. rw (all-rows s (λ p. p .published) ∙ sym asked ∙ h) refl;
-    granted = refl;
     neat = neat-coordination s whole;
-    tidy = neat-gate s whole;
   }
 
   announces-all : (x : Bool) → x ≡ allOf (λ j. getD (s .published) j false) 0 (s .count) → x ≡ true
       → (t : Tag) → t ≡ cellOf (leastFrom (λ j. optionalOf (tagIn (s .seconds) (s .nanoseconds) (s .microsteps) j)) 0 (s .count))
-      → Announces s (record { announces = true; coordination = announced (s .coordination) t (s .«grant_horizon») (s .lifecycle); gate = droppedOf (s .gate) })
+      → Announces s (record { announces = true; coordination = announced (s .coordination) t (s .«grant_horizon») (s .lifecycle) })
   announces-all x asked h t least = record {
     step = λ e resume. rw (all-rows s (λ p. p .published) ∙ sym asked ∙ h) (announced-step e resume t held);
-    granted = refl;
     neat = coordination-whole (announced (s .coordination) t (s .«grant_horizon») (s .lifecycle)) (record {
       phase = phase-below (idlePhase (optionalOf t) (policyOf (s .lifecycle)));
       authorization = coordination-parts (s .coordination) (neat-coordination s whole) .authorization;
       publication = and-intro (isNeat t) (isNeat (s .«grant_horizon»)) (rw least (kept-neat cells keeps)) (neat-horizon s whole);
-    });
-    tidy = gate-whole (droppedOf (s .gate)) (record {
-      inputHorizon = gate-parts (s .gate) (neat-gate s whole) .inputHorizon;
-      granted = gate-parts (s .gate) (neat-gate s whole) .granted;
-      stored = neat-cell NoTag tt;
-      revision = tt;
     });
   }
     where
@@ -99,15 +98,15 @@ module _ (s : Held) (whole : T (represents s)) where
 
 -- ---- in every state that has what was given
 
-module _ (ps : List Bool) (ss ns : List ℤ) (ms : List ℕ) (n : ℕ) (c : Coordination) (g : Gate) (h : Tag) (l : ℕ) (x : Bool)
+module _ (ps : List Bool) (ss ns : List ℤ) (ms : List ℕ) (n : ℕ) (c : Coordination) (h : Tag) (l : ℕ) (x : Bool)
     (asked : x ≡ allOf (λ j. getD ps j false) 0 n) where
-  pub announces-not : not x ≡ true → (s : Held) → T (represents s) → Has s ps ss ns ms n c g h l → Announces s (record { announces = false; coordination = c; gate = g })
+  pub announces-not : not x ≡ true → (s : Held) → T (represents s) → Has s ps ss ns ms n c h l → Announces s (record { announces = false; coordination = c })
   announces-not q s whole has =
-      rw (← has .coordination, ← has .gate) (announces-none s whole x (rw (has .published, has .count) asked) (not-true x q))
+      rw (← has .coordination) (announces-none s whole x (rw (has .published, has .count) asked) (not-true x q))
 
   pub announces-now : not x ≡ false → (t : Tag) → t ≡ cellOf (leastFrom (λ j. optionalOf (tagIn ss ns ms j)) 0 n)
-      → (p : ℕ) → p ≡ phaseNumber (idlePhase (optionalOf t) (policyOf l)) → (d : Gate) → d ≡ droppedOf g → (s : Held) → T (represents s) → Has s ps ss ns ms n c g h l
-      → Announces s (record { announces = true; coordination = withPending c p t h; gate = d })
-  announces-now q t least p phase d drops s whole has =
-      rw (phase, drops, ← has .coordination, ← has .gate, ← has .horizon, ← has .lifecycle)
+      → (p : ℕ) → p ≡ phaseNumber (idlePhase (optionalOf t) (policyOf l)) → (s : Held) → T (represents s) → Has s ps ss ns ms n c h l
+      → Announces s (record { announces = true; coordination = withPending c p t h })
+  announces-now q t least p phase s whole has =
+      rw (phase, ← has .coordination, ← has .horizon, ← has .lifecycle)
       (announces-all s whole x (rw (has .published, has .count) asked) (not-false x q) t (rw (has .seconds, has .nanoseconds, has .microsteps, has .count) least))

@@ -9,10 +9,10 @@ ghost use Rattle.records.specs.Numbers.{phaseNumber};
 ghost use Rattle.rules.specs.Publication.{activateOf, publishOf, repeated, idlePhase};
 ghost use Rattle.state.specs.declared.FederateCoordinationState.{FederateCoordinationState as Held};
 ghost use Rattle.state.specs.declared.Next.the-variants.{Says};
-ghost use Rattle.state.specs.Cells.{absent, optionalOf, phaseOf, policyOf};
+ghost use Rattle.state.specs.Cells.{optionalOf, phaseOf, policyOf};
 ghost use Rattle.state.specs.View.{represents};
 ghost use Rattle.state.specs.Decides.{Decides, neatParts, saidOf};
-ghost use Rattle.publication.specs.Announce.{Has, Announces};
+ghost use Rattle.publication.specs.Announce.{droppedOf, Has, Announces};
 ghost use Rattle.publication.specs.Revise.{revisedOf, unprobedOf};
 use state::ABSENT;
 use state::Completion;
@@ -25,10 +25,9 @@ use tags::OptionalTag;
 use tags::Tag;
 
 pub struct Announced {
-    // Whether all are published, so that Publish is emitted.
+    // Whether all are published, so that Publish is emitted and the stored acquisition dropped.
     pub announces: bool,
     pub coordination: Coordination,
-    pub gate: Gate,
 }
 
 // Revise, the observations aside.
@@ -161,8 +160,8 @@ fn idle_phase(next_event: Tag, lifecycle: u8) -> u8
 }
 
 // The stored acquisition dropped.
-fn dropped(g: Gate) -> Gate
-    ensures { λ r. ⌜ r ≡ record { «input_horizon» = g .«input_horizon»; «stored_revision» = 0; «stored_granted» = absent; granted = g .granted } ⌝ }
+pub fn dropped(g: Gate) -> Gate
+    ensures { λ r. ⌜ r ≡ droppedOf g ⌝ }
 {
     let mut r = g;
     r.stored_revision = 0;
@@ -179,18 +178,16 @@ pub fn announce<'a>(
     microsteps: &'a [u64; 96],
     count: usize,
     coordination: Coordination,
-    gate: Gate,
     horizon: Tag,
     lifecycle: u8,
 ) -> Announced
     requires { ⌜ count ≤ 32 ⌝ }
-    ensures { λ r. ⌜ ((s : Held) → T (represents s) → Has s (now (published .entry)) (now (seconds .entry)) (now (nanoseconds .entry)) (now (microsteps .entry)) count coordination gate horizon lifecycle → Announces s r) ⌝ }
+    ensures { λ r. ⌜ ((s : Held) → T (represents s) → Has s (now (published .entry)) (now (seconds .entry)) (now (nanoseconds .entry)) (now (microsteps .entry)) count coordination horizon lifecycle → Announces s r) ⌝ }
 {
     if !table::all_set(published, count) {
         return Announced {
             announces: false,
             coordination,
-            gate,
         };
     }
     let least = table::least_candidate(seconds, nanoseconds, microsteps, count);
@@ -203,6 +200,5 @@ pub fn announce<'a>(
     Announced {
         announces: true,
         coordination: next,
-        gate: dropped(gate),
     }
 }

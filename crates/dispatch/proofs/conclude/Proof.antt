@@ -33,7 +33,7 @@ returns c =
     let a = c .before .before .before .args in
     rw (c .before .next .given .1)
     ((λ s e good has. concludes-says (now (a .published)) (now (a .seconds)) (now (a .nanoseconds)) (now (a .microsteps)) (a .count)
-    (a .coordination) (a .completion) (a .gate) (a .horizon) (a .lifecycle) s e good has _), λ h. (refl, refl))
+    (a .coordination) (a .completion) (a .horizon) (a .lifecycle) s e good has _), λ h. (refl, refl))
 
 -- it publishes if all are published
 returns-2 : tie.Need-returns-2
@@ -41,7 +41,7 @@ returns-2 c =
     let a = c .before .before .before .before .before .args in
     rw (c .before .before .before .next2 .given .1, c .with-publication .ensures)
     ((λ s e good has. concludes-announces (now (a .published)) (now (a .seconds)) (now (a .nanoseconds)) (now (a .microsteps)) (a .count)
-    (a .coordination) (a .completion) (a .gate) (a .horizon) (a .lifecycle) s e good has _ _
+    (a .coordination) (a .completion) (a .horizon) (a .lifecycle) s e good has _ _
     (c .before .announce .ensures)), λ h. absurd h)
 
 -- it completes the least completed tag
@@ -50,7 +50,7 @@ returns-3 c =
     let a = c .before .before .before .before .args in
     rw (c .before .before .enum-told .given .1, c .with-completion .ensures)
     ((λ s e good has. concludes-completes (now (a .published)) (now (a .seconds)) (now (a .nanoseconds)) (now (a .microsteps)) (a .count)
-    (a .coordination) (a .completion) (a .gate) (a .horizon) (a .lifecycle) s e good has _
+    (a .coordination) (a .completion) (a .horizon) (a .lifecycle) s e good has _
     (c .before .complete-least .ensures)), λ h. (refl, refl))
 
 pub conclude-spec : {M : Type 1} → statement M

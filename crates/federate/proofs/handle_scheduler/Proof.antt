@@ -21,14 +21,16 @@ use Rattle.state.proofs.Rows.{apart}
 use Rattle.calls.specs.Called.{lent, isOpen, roomFirst}
 use Rattle.calls.proofs.Standing.{is-so, sized-by, sound-by-leaves, Standing, standing}
 use Rattle.calls.proofs.Ends.{First, ends-27, ends-first, first-shut, open-three}
+use Rattle.completion.specs.declared.Advanced.{Advanced}
 use Rattle.completion.specs.Advance.{Advances}
+use Rattle.dispatch.specs.declared.Concluded.{Concluded}
 use Rattle.dispatch.specs.declared.Flat.{Flat}
 use Rattle.dispatch.specs.Messages.{callOf, enclaveOf, tagOf, flatOf, Concludes}
 use Rattle.federate.specs.Places.{placeOf}
 use Rattle.federate.proofs.Message.{takes-room, is-silent, message-proper, sits}
 use Rattle.federate.proofs.Scheduler.{ownEnd, wholeEnd}
 use Rattle.federate.proofs.Refusing.{known-is}
-use Rattle.federate.proofs.Taking.{Enters, either, end-aside, end-cleared, end-kept, told, told-decided, toldRow, told-row, withRow, decides, neat, halfway-holds, own-holds, ends-9, ends-0}
+use Rattle.federate.proofs.Taking.{Enters, either, storedEnd, observedEnd, end-aside, end-cleared, end-kept, end-dropped, end-held, told, told-decided, toldRow, told-row, withRow, decides, neat, halfway-holds, own-holds, ends-9, ends-0}
 use Rattle.federate.proofs.handle_scheduler.Statement.{statement}
 use Rattle.federate.proofs.handle_scheduler.Tie as tie
 
@@ -170,7 +172,7 @@ abbrev fields : tie.After-own-step → tie.After-tag-by-fields
 fields c = c .before
 
 abbrev rowed : tie.After-own-step → tie.After-row-at
-rowed c = fields c .before .before .before .before
+rowed c = fields c .before .before .before
 
 abbrev home : tie.After-own-step → tie.Else2
 home c = rowed c .before .before .before .before .before .before .before .before
@@ -184,14 +186,11 @@ row-is c = rowed c .row-at .ensures
 horizon-is : (c : tie.After-own-step) → fields c .tag-by-fields .result ≡ held (home c) .«grant_horizon»
 horizon-is c = fields c .tag-by-fields .ensures
 
-gate-is : (c : tie.After-own-step) → fields c .before .gate-by-fields .result ≡ held (home c) .gate
-gate-is c = fields c .before .gate-by-fields .ensures
+completion-is : (c : tie.After-own-step) → fields c .before .completion-by-fields .result ≡ held (home c) .completion
+completion-is c = fields c .before .completion-by-fields .ensures
 
-completion-is : (c : tie.After-own-step) → fields c .before .before .completion-by-fields .result ≡ held (home c) .completion
-completion-is c = fields c .before .before .completion-by-fields .ensures
-
-coordination-is : (c : tie.After-own-step) → fields c .before .before .before .coordination-by-fields .result ≡ held (home c) .coordination
-coordination-is c = fields c .before .before .before .coordination-by-fields .ensures
+coordination-is : (c : tie.After-own-step) → fields c .before .before .coordination-by-fields .result ≡ held (home c) .coordination
+coordination-is c = fields c .before .before .coordination-by-fields .ensures
 
 flat-is : (c : tie.After-own-step) → seat (home c) .before .before .before .before .flat-of .result ≡ flatOf (start (seat (home c)) .args .message)
 flat-is c = seat (home c) .before .before .before .before .flat-of .ensures
@@ -238,7 +237,7 @@ between c = halfway (held (there c)) (place (there c)) (stored (own c))
 concludes-at : (c : tie.After-conclude) → Concludes (between c) (index (begun (own c))) (stored (own c) .next) (c .conclude .result)
 concludes-at c =
     c .conclude .ensures .0 (between c) (index (begun (own c))) (halfway-holds _ _ _ _ (enters (there c)) (stored (own c)) (neat-so (own c)))
-    (record { published = refl; seconds = refl; nanoseconds = refl; microsteps = refl; count = refl; coordination = refl; completion = refl; gate = sym (gate-is (begun (own c))); horizon = sym (horizon-is (begun (own c))); lifecycle = refl })
+    (record { published = refl; seconds = refl; nanoseconds = refl; microsteps = refl; count = refl; coordination = refl; completion = refl; horizon = sym (horizon-is (begun (own c))); lifecycle = refl })
 
 abbrev done : tie.After-advance-completion → tie.After-conclude
 done c = c .before .before .before .before .before .before .before .before .before .before
@@ -252,20 +251,20 @@ advances-at c =
     c .advance-completion .ensures (after c) (own-holds _ _ _ _ (enters (there (done c))) (stored o) (neat-so o) (decides-so o) (done c .conclude .result) (concludes-at (done c)))
     (record { published = refl; acknowledged = refl; observed = refl; seconds = refl; nanoseconds = refl; microsteps = refl; count = refl; phase = refl; horizon = sym (horizon-is (begun o)); completion = refl })
 
--- the completion step, seen from where all is stored
+-- the completion step, seen from where the small parts are stored
 abbrev stepped : tie.Joined4 → tie.After-advance-completion
-stepped c = c .before .before .before .before .before
+stepped c = c .before .before .before .before
 
--- the state as it is handed back
-abbrev last : tie.Joined4 → Held
-last c =
+-- an end of the call, seen from there
+abbrev At : (Held → ℕ → Decided → Concluded → Advanced → Held) → tie.Joined4 → Held
+At end c =
     let a = stepped c in
-    wholeEnd (held (there (done a))) (place (there (done a))) (stored (own (done a))) (done a .conclude .result) (a .advance-completion .result)
+    end (held (there (done a))) (place (there (done a))) (stored (own (done a))) (done a .conclude .result) (a .advance-completion .result)
 
 -- a message about completion left the rest alone
 left-alone : (c : tie.Joined4) → c .before .is-about-completion .result ≡ true
     → withCompletion (stepped c .advance-completion .result .completion) (withRow (held (there (done (stepped c)))) (place (there (done (stepped c)))) (stored (own (done (stepped c))) .parts .row))
-    ≡ last c
+    ≡ At storedEnd c
 left-alone c h =
     let a = stepped c in
     let d = done a in
@@ -273,18 +272,33 @@ left-alone c h =
     let x = o .own-step .ensures .1 .1 (is-so (sym (c .before .is-about-completion .ensures) ∙ h)) in
     let y = d .conclude .ensures .1 (x .unannounced) in
     end-aside (held (there d)) (place (there d)) (stored (own d)) (d .conclude .result) (a .advance-completion .result)
-    (y .0 ∙ x .coordination ∙ coordination-is o) (y .1 ∙ gate-is o) (x .failed) (x .failure) (x .forgets)
+    (y .0 ∙ x .coordination ∙ coordination-is o) (x .failed) (x .failure)
 
-joined : (c : tie.Joined4) → c .if4 .state ≡ last c
-joined c =
-    let a = stepped c in
+kept-so : (c : tie.Joined4) → c .if4 .state ≡ At storedEnd c
+kept-so c = either (λ p. p .1) (λ p. p .1 ∙ left-alone c (not-false _ (p .0 .left))) (c .if4 .came)
+
+-- the small parts stored, seen from where the observations are
+abbrev parted : tie.Joined5 → tie.Joined4
+parted c = c .before .before .before .before .before .before .before .before .before .before .before .before .before .before .before
+
+observed-so : (c : tie.Joined5) → c .if5 .state ≡ At observedEnd (parted c)
+observed-so c =
+    let j = parted c in
+    let a = stepped j in
     let d = done a in
     either
-    (λ p. p .4 ∙ end-cleared (held (there d)) (place (there d)) (stored (own d)) (d .conclude .result) (a .advance-completion .result) _ (p .3 .ensures) (p .1 .taken))
-    (either
-    (λ p. p .2 ∙ end-kept (held (there d)) (place (there d)) (stored (own d)) (d .conclude .result) (a .advance-completion .result) (p .1 .left))
-    (λ p. p .1 ∙ left-alone c (not-false _ (p .0 .left))))
-    (c .if4 .came)
+    (λ p. p .3 ∙ end-cleared (held (there d)) (place (there d)) (stored (own d)) (d .conclude .result) (a .advance-completion .result) (j .if4 .state) (kept-so j) _ (p .2 .ensures) (p .0 .taken))
+    (λ p. p .1 ∙ kept-so j ∙ end-kept (held (there d)) (place (there d)) (stored (own d)) (d .conclude .result) (a .advance-completion .result) (p .0 .left))
+    (c .if5 .came)
+
+ended-so : (c : tie.Joined6) → c .if6 .state ≡ At wholeEnd (parted (c .before))
+ended-so c =
+    let a = stepped (parted (c .before)) in
+    let d = done a in
+    either
+    (λ p. p .3 ∙ end-dropped (held (there d)) (place (there d)) (stored (own d)) (d .conclude .result) (a .advance-completion .result) (c .before .if5 .state) (observed-so (c .before)) _ (p .2 .ensures) (p .0 .taken))
+    (λ p. p .1 ∙ observed-so (c .before) ∙ end-held (held (there d)) (place (there d)) (stored (own d)) (d .conclude .result) (a .advance-completion .result) (p .0 .left))
+    (c .if6 .came)
 
 -- ---- the needs
 
@@ -366,9 +380,6 @@ coordination-by-fields-requires c κs = tt
 
 completion-by-fields-requires : tie.Need-completion-by-fields-requires
 completion-by-fields-requires c κs = tt
-
-gate-by-fields-requires : tie.Need-gate-by-fields-requires
-gate-by-fields-requires c κs = tt
 
 tag-by-fields-requires : tie.Need-tag-by-fields-requires
 tag-by-fields-requires c κs = tt
@@ -498,7 +509,7 @@ is-about-completion-requires : tie.Need-is-about-completion-requires
 is-about-completion-requires c κs = tt
 
 clear-requires : tie.Need-clear-requires
-clear-requires c κs = few (there (done (c .before .before .before .before .before .before .before)))
+clear-requires c κs = few (there (done (stepped (c .before .before .before .before .before .before .before .before .before .before .before .before .before .before .before .before))))
 
 mul-number : tie.Need-mul-number
 mul-number c = fours (in-begun (near (there (done (stepped c)))))
@@ -514,22 +525,25 @@ add-saying-requires c κs =
     let o = c .before .before .before .before .before .before .before .before in
     (o .add-said .ensures .1, few (there (done (stepped (o .before .before .before)))))
 
+dropped-requires : tie.Need-dropped-requires
+dropped-requires c κs = tt
+
 with-reply-requires-4 : tie.Need-with-reply-requires-4
 with-reply-requires-4 c κs = tt
 
 same-length : tie.Need-same-length
-same-length c = let w = c .before .before .before in w .add-saying .kept .0 ∙ w .before .before .before .before .before .before .before .before .before .add-said .kept .0
+same-length c = let w = c .before .before .before .before .before in w .add-saying .kept .0 ∙ w .before .before .before .before .before .before .before .before .before .add-said .kept .0
 
 returns-4 : tie.Need-returns-4
 returns-4 c =
-    let w = c .before .before .before in
-    let o = w .before .before .before .before .before .before .before .before .before in
-    let j = o .before .before .before in
-    let f = j .before .before .before .before in
-    let a = f .before in
+    let e = c .before in
+    let j = parted (e .before) in
+    let o = c .before .before .before .before .before .before .before .before .before .before .before .before .before .before in
+    let a = stepped j in
     let d = done a in
     ends-0 _ _ _ _ (enters (there d)) (stored (own d)) (neat-so (own d)) (decides-so (own d)) (d .conclude .result) (concludes-at d) (a .advance-completion .result) (advances-at a) _
-    (f .if3 .left) (j .if4 .state) (joined j) _ _ _ _ (o .add-said .ensures .0) (w .add-saying .ensures) (c .with-reply4 .ensures)
+    (j .before .before .before .if3 .left) (j .if4 .state) (kept-so j) (e .if6 .state) (ended-so e) _ _ _ _ (o .add-said .ensures .0)
+    (c .before .before .before .before .before .add-saying .ensures) (c .with-reply4 .ensures)
 
 pub handle-scheduler-spec : {M : Type 1} → statement M
 handle-scheduler-spec =
@@ -558,7 +572,6 @@ handle-scheduler-spec =
     row-at-requires
     coordination-by-fields-requires
     completion-by-fields-requires
-    gate-by-fields-requires
     tag-by-fields-requires
     own-step-requires
     element-write-state
@@ -599,11 +612,12 @@ handle-scheduler-spec =
     with-reply-requires-3
     returns-3
     is-about-completion-requires
-    clear-requires
     mul-number
     element-copy-out-number
     add-said-requires
     add-saying-requires
+    clear-requires
+    dropped-requires
     with-reply-requires-4
     same-length
     returns-4)

@@ -12,7 +12,7 @@ all-set-requires c κs = search needs
 returns : tie.Need-returns
 returns c =
     let a = c .before .before .args in
-    announces-not (now (a .published)) (now (a .seconds)) (now (a .nanoseconds)) (now (a .microsteps)) (a .count) (a .coordination) (a .gate)
+    announces-not (now (a .published)) (now (a .seconds)) (now (a .nanoseconds)) (now (a .microsteps)) (a .count) (a .coordination)
     (a .horizon) (a .lifecycle) _ (c .before .all-set .ensures) (c .if1 .taken)
 
 least-candidate-requires : tie.Need-least-candidate-requires
@@ -21,18 +21,14 @@ least-candidate-requires c κs = search needs
 idle-phase-requires : tie.Need-idle-phase-requires
 idle-phase-requires c κs = search needs
 
-dropped-requires : tie.Need-dropped-requires
-dropped-requires c κs = search needs
-
 -- all are
 returns-2 : tie.Need-returns-2
 returns-2 c =
-    let d = c .before .before .before in
+    let d = c .before .before in
     let a = d .before .before .args in
-    announces-now (now (a .published)) (now (a .seconds)) (now (a .nanoseconds)) (now (a .microsteps)) (a .count) (a .coordination) (a .gate)
-    (a .horizon) (a .lifecycle) _ (d .before .all-set .ensures) (d .if1 .left) _ (c .before .before .least-candidate .ensures) _ (c .before .idle-phase .ensures)
-    _ (c .dropped .ensures)
+    announces-now (now (a .published)) (now (a .seconds)) (now (a .nanoseconds)) (now (a .microsteps)) (a .count) (a .coordination)
+    (a .horizon) (a .lifecycle) _ (d .before .all-set .ensures) (d .if1 .left) _ (c .before .least-candidate .ensures) _ (c .idle-phase .ensures)
 
 pub announce-spec : {M : Type 1} → statement M
 announce-spec =
-    tie.close (tie.spec all-set-requires returns least-candidate-requires idle-phase-requires dropped-requires returns-2)
+    tie.close (tie.spec all-set-requires returns least-candidate-requires idle-phase-requires returns-2)
