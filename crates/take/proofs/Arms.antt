@@ -33,6 +33,8 @@ use Rattle.events.specs.declared.Event.{Event}
 use Rattle.events.specs.declared.Event.the-variants.{NoEvent, Input}
 use Rattle.records.specs.declared.Refusal.the-variants.{ScriptOutOfForm}
 use Rattle.events.specs.Told.{toldEvent}
+use Rattle.records.specs.declared.SchedulerMessage.{SchedulerMessage}
+use Rattle.dispatch.specs.Messages.{callOf}
 use Rattle.take.specs.Takes.{Takes, TakesCall}
 
 pub takes-nothing : (x : Event) (es : List ℕ) → x ≡ NoEvent → (s : Held) (room : List ℕ) (r : Called) → r ≡ replied s ScriptOutOfForm Silent 0 → Takes (toldEvent x es) s room room r
@@ -41,6 +43,10 @@ takes-nothing x es e s room r h = subst (λ o. Takes o s room room r) (sym (ap (
 -- the event is this one, and this one tells the call
 pub takes-as : (x y : Event) (es : List ℕ) (c : Call) → x ≡ y → toldEvent y es ≡ some c → (s : Held) (before after : List ℕ) (r : Called) → TakesCall c s before after r → Takes (toldEvent x es) s before after r
 takes-as x y es c e t s before after r h = subst (λ o. Takes o s before after r) (sym (ap (λ z. toldEvent z es) e ∙ t)) h
+
+-- so does the event of a scheduler's message
+pub told-as : (x y : Event) (es : List ℕ) (m n : SchedulerMessage) → x ≡ y → m ≡ n → toldEvent y es ≡ some (callOf n) → toldEvent x es ≡ some (callOf m)
+told-as x y es m n e f t = ap (λ z. toldEvent z es) e ∙ t ∙ sym (ap (λ z. some (callOf z)) f)
 
 -- ---- calls that take no room
 
