@@ -7,7 +7,7 @@ use native.Mathlib.Omega.{arith}
 use lib.Dec.{T, eqb}
 use borrow.Author.Tests.{eq-eqb, ne-eqb}
 use Rattle.records.specs.Numbers.{phaseNumber, nextRevision}
-use Rattle.rules.specs.Model.{CoordinationPhase, Stopped, AwaitingIdleConfirmation, Probe, Park, Recheck, Stop, Probed, HasParked, Rechecked, State, Step}
+use Rattle.rules.specs.Model.{CoordinationPhase, Stopped, AwaitingIdleConfirmation, Probed, HasParked, Rechecked, State, Step}
 use Rattle.rules.specs.Walk.{is, isNumber}
 use Rattle.rules.specs.Stop.{stopOf}
 use Rattle.rules.specs.Observation.{agreed, idleConfirmationOf, lacksAuthorization, awaits}
@@ -17,7 +17,6 @@ use Rattle.state.specs.Cells.{absent, numberIf}
 use Rattle.state.specs.View.{view, represents, neatCoordination}
 use Rattle.state.specs.Parts.{withoutPending}
 use Rattle.state.proofs.Neat.{coordination-parts, coordination-whole, neat-coordination, neat-without-pending, no-publication, phase-bound, policy-bound}
-use Rattle.observation.specs.declared.Said.the-variants.{Nothing, Says}
 use Rattle.observation.specs.declared.Moved.{Moved}
 use Rattle.observation.specs.Moves.{Moves, inPhase}
 use Rattle.state.proofs.Round.{phase-number}
@@ -67,39 +66,39 @@ module _ (s : Held) (h : T (represents s)) (c : Coordination) (e : s .coordinati
   given : (rule : State → Step) (f : Coordination → Moved) → d ≡ f c → Moves rule s (f (s .coordination)) → Moves rule s d
   given rule f g m = rw (g, ← e) m
 
-  pub stop-stopped : d ≡ record { coordination = c; said = Nothing } → c .phase ≡ 6 → Moves stopOf s d
+  pub stop-stopped : d ≡ record { coordination = c; says = 0 } → c .phase ≡ 6 → Moves stopOf s d
   unfolding stopOf
   stop-stopped g p =
       let t = phase-is s h Stopped ∙ eq-eqb _ 6 (ap (λ x. x .phase) e ∙ p) in
-      given stopOf (λ x. record { coordination = x; said = Nothing }) g (record { step = rw t refl; neat = neat-coordination s h })
+      given stopOf (λ x. record { coordination = x; says = 0 }) g (record { step = rw t refl; neat = neat-coordination s h })
 
-  pub stop-running : d ≡ record { coordination = withoutPending 6 c; said = Says Stop } → (c .phase ≡ 6 → ⊥) → Moves stopOf s d
+  pub stop-running : d ≡ record { coordination = withoutPending 6 c; says = 10 } → (c .phase ≡ 6 → ⊥) → Moves stopOf s d
   unfolding stopOf
   stop-running g p =
       let t = phase-is s h Stopped ∙ ne-eqb _ 6 (λ q. p (sym (ap (λ x. x .phase) e) ∙ q)) in
-      given stopOf (λ x. record { coordination = withoutPending 6 x; said = Says Stop }) g
+      given stopOf (λ x. record { coordination = withoutPending 6 x; says = 10 }) g
       (record { step = rw t refl; neat = neat-without-pending (s .coordination) 6 (omega arith) (neat-coordination s h) })
 
-  pub agreed-probed : d ≡ record { coordination = inPhase 2 c; said = Says (Park (c .revision)) } → Moves (agreed Probed) s d
+  pub agreed-probed : d ≡ record { coordination = inPhase 2 c; says = 7 } → Moves (agreed Probed) s d
   unfolding agreed
   agreed-probed g =
-      given (agreed Probed) (λ x. record { coordination = inPhase 2 x; said = Says (Park (x .revision)) }) g
+      given (agreed Probed) (λ x. record { coordination = inPhase 2 x; says = 7 }) g
       (record { step = refl; neat = neat-in-phase (s .coordination) 2 (omega arith) (neat-coordination s h) })
 
-  pub agreed-parked : d ≡ record { coordination = inPhase 3 c; said = Says (Recheck (c .revision)) } → Moves (agreed HasParked) s d
+  pub agreed-parked : d ≡ record { coordination = inPhase 3 c; says = 8 } → Moves (agreed HasParked) s d
   unfolding agreed
   agreed-parked g =
-      given (agreed HasParked) (λ x. record { coordination = inPhase 3 x; said = Says (Recheck (x .revision)) }) g
+      given (agreed HasParked) (λ x. record { coordination = inPhase 3 x; says = 8 }) g
       (record { step = refl; neat = neat-in-phase (s .coordination) 3 (omega arith) (neat-coordination s h) })
 
   module _ (l : ℕ) (k : s .lifecycle ≡ l) (b : Bool) (a : b ≡ (eqb l 2 && not (isNumber (numberIf (c .authorized) (c .«idle_authorization»)) (c .revision)))) where
     lacks-given : lacksAuthorization (view s) ≡ b
     lacks-given = rw (a, ← k, ← e) (lacks-is s h)
 
-    pub agreed-awaits : d ≡ record { coordination = inPhase 5 c; said = Nothing } → b ≡ true → Moves (agreed Rechecked) s d
+    pub agreed-awaits : d ≡ record { coordination = inPhase 5 c; says = 0 } → b ≡ true → Moves (agreed Rechecked) s d
     unfolding agreed
     agreed-awaits g t =
-        given (agreed Rechecked) (λ x. record { coordination = inPhase 5 x; said = Nothing }) g
+        given (agreed Rechecked) (λ x. record { coordination = inPhase 5 x; says = 0 }) g
         (record { step = rw (lacks-given ∙ t) refl; neat = neat-in-phase (s .coordination) 5 (omega arith) (neat-coordination s h) })
 
     pub agreed-stops : Moves stopOf s d → b ≡ false → Moves (agreed Rechecked) s d
@@ -110,12 +109,12 @@ module _ (s : Held) (h : T (represents s)) (c : Coordination) (e : s .coordinati
     awaits-given : awaits r (view s) ≡ b
     awaits-given = rw (a, ← e) (awaits-is s h r)
 
-    pub idle-quiet : d ≡ record { coordination = c; said = Nothing } → b ≡ false → Moves (idleConfirmationOf r) s d
+    pub idle-quiet : d ≡ record { coordination = c; says = 0 } → b ≡ false → Moves (idleConfirmationOf r) s d
     unfolding idleConfirmationOf
     idle-quiet g t =
-        given (idleConfirmationOf r) (λ x. record { coordination = x; said = Nothing }) g (record { step = rw (awaits-given ∙ t) refl; neat = neat-coordination s h })
+        given (idleConfirmationOf r) (λ x. record { coordination = x; says = 0 }) g (record { step = rw (awaits-given ∙ t) refl; neat = neat-coordination s h })
 
-    pub idle-probes : (n : ℕ) → n ≡ nextRevision (c .revision) → d ≡ record { coordination = probing n; said = Says (Probe n) } → b ≡ true
+    pub idle-probes : (n : ℕ) → n ≡ nextRevision (c .revision) → d ≡ record { coordination = probing n; says = 6 } → b ≡ true
         → Moves (idleConfirmationOf r) s d
     unfolding idleConfirmationOf
     idle-probes n q g t =

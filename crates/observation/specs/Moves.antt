@@ -1,7 +1,7 @@
 -- What the functions that decide an observation, an idle confirmation or a stop promise, on the numbers that the state holds. Assumes nothing.
 use mathlib.Core.Path.{_≡_}
 use mathlib.Core.Bool.{Bool, not, _||_}
-use mathlib.Core.List.{List, [], _∷_}
+use mathlib.Core.List.{List}
 use Prim.Native.Nat.{ℕ}
 use lib.Dec.{T, eqb}
 use Rattle.rules.specs.Model.{CoordinationAction, State, Step}
@@ -9,8 +9,7 @@ use Rattle.state.specs.declared.FederateCoordinationState.{FederateCoordination
 use Rattle.state.specs.declared.Coordination.{Coordination}
 use Rattle.state.specs.View.{view, neatCoordination}
 use Rattle.state.specs.Parts.{withCoordination}
-use Rattle.observation.specs.declared.Said.{Said}
-use Rattle.observation.specs.declared.Said.the-variants.{Nothing, Says}
+use Rattle.state.specs.Decides.{saidOf}
 use Rattle.observation.specs.declared.Moved.{Moved}
 
 -- "Stopped, stale or AwaitingIdleConfirmation", of the phase's number, the current revision and the one given
@@ -29,11 +28,11 @@ inPhase phase c = record {
   «pending_grant_horizon» = c .«pending_grant_horizon»;
 }
 
-abbrev pub sayings : Said → List CoordinationAction
-sayings Nothing = []
-sayings (Says a) = a ∷ []
+-- the action that a move says, with the revision that it leaves; none of them names an enclave
+abbrev pub saysOf : Moved → List CoordinationAction
+saysOf d = saidOf (d .says) 0 (d .coordination .revision)
 
 -- d is this rule in s, and leaves no hidden cell
 pub record Moves (rule : State → Step) (s : Held) (d : Moved) : Type 0 where
-  pub step : rule (view s) ≡ record { state = view (withCoordination (d .coordination) s); actions = sayings (d .said) }
+  pub step : rule (view s) ≡ record { state = view (withCoordination (d .coordination) s); actions = saysOf d }
   pub neat : T (neatCoordination (d .coordination))

@@ -2,26 +2,23 @@
 // "ParticipantStopped, Failed, stop"; state.rs: handle_observation, handle_idle_confirmation, stop). A call refuses with 27 and 8; an
 // observation also with 3 and, where it is heard and the table says so, with 4.
 ghost use mathlib.Core.Path.{_≡_};
-ghost use mathlib.Core.Bool.{not, cond, _&&_};
+ghost use mathlib.Core.Bool.{cond};
 ghost use Prim.Native.Nat.{_≤_};
 ghost use lib.Dec.{T, eqb};
 ghost use lib.ListN.{getD, length};
 ghost use Rattle.bytes.specs.Runs.{putAt};
 ghost use Rattle.actions.specs.Record.{recordsOf};
 ghost use Rattle.rules.specs.Model.{Ignored, observe, idle, stop};
-ghost use Rattle.rules.specs.Walk.{isNumber};
 ghost use Rattle.rules.specs.Stop.{stopOf};
 ghost use Rattle.rules.specs.Observation as rules;
 ghost use Rattle.state.specs.declared.FederateCoordinationState.{FederateCoordinationState as Held};
-ghost use Rattle.state.specs.Cells.{phaseOf, numberIf};
+ghost use Rattle.state.specs.Cells.{phaseOf};
 ghost use Rattle.state.specs.View.{represents};
 ghost use Rattle.state.specs.Walk.{allOf};
 ghost use Rattle.calls.specs.Called.{Promised, lent, actionsOf};
-ghost use Rattle.observation.specs.declared.Said.the-variants.{Nothing};
-ghost use Rattle.observation.specs.Moves.{Moves, sayings, unheardBy, inPhase};
+ghost use Rattle.observation.specs.Moves.{Moves, unheardBy};
 use calls::Called;
 use records::Answer;
-use records::CoordinationAction;
 use records::CoordinationRevision;
 use records::EnclaveIndex;
 use records::Observation;
@@ -30,39 +27,26 @@ use records::Verdict;
 use state::Coordination;
 use state::FederateCoordinationState;
 
-// What a rule says: one action or none.
-enum Said {
-    Nothing,
-    Says(CoordinationAction),
-}
-
-// What a rule that changes the coordination alone gives.
+// What a rule that changes the coordination alone gives, and the number of the action that it says of the revision then, or 0 for none.
 struct Moved {
     coordination: Coordination,
-    said: Said,
-}
-
-fn is_unheard(phase: u8, current: CoordinationRevision, revision: CoordinationRevision) -> bool
-    ensures { λ r. ⌜ r ≡ unheardBy phase current revision ⌝ }
-{
-    if phase == 6 {
-        return true;
-    }
-    if revision != current {
-        return true;
-    }
-    phase == 5
+    says: u8,
 }
 
 // The verdict on an observation of this revision; one that is not heard is ignored.
-fn judged(c: Coordination, revision: CoordinationRevision, observation: Observation) -> Verdict
-    requires { ⌜ c .phase ≤ 6 ⌝ }
-    ensures { λ r. ⌜ r ≡ cond (unheardBy (c .phase) (c .revision) revision) Ignored (rules.verdictOf (phaseOf (c .phase)) observation) ⌝ }
+fn judged(
+    phase: u8,
+    current: CoordinationRevision,
+    revision: CoordinationRevision,
+    observation: Observation,
+) -> Verdict
+    requires { ⌜ phase ≤ 6 ⌝ }
+    ensures { λ r. ⌜ r ≡ cond (unheardBy phase current revision) Ignored (rules.verdictOf (phaseOf phase) observation) ⌝ }
 {
-    if is_unheard(c.phase, c.revision, revision) {
+    if phase == 6 || revision != current || phase == 5 {
         return Verdict::Ignored;
     }
-    verdicts::verdict_in(c.phase, observation)
+    verdicts::verdict_in(phase, observation)
 }
 
 fn all_observed(observation: &[u8; 32], count: usize, cell: u8) -> bool
@@ -79,108 +63,74 @@ fn all_observed(observation: &[u8; 32], count: usize, cell: u8) -> bool
     true
 }
 
-fn is_authorized(c: Coordination) -> bool
-    ensures { λ r. ⌜ r ≡ isNumber (numberIf (c .authorized) (c .«idle_authorization»)) (c .revision) ⌝ }
-{
-    if c.authorized {
-        return c.idle_authorization == c.revision;
-    }
-    false
-}
-
-// Under CoordinatedTermination, without authorization for this revision.
-fn lacks_authorization(c: Coordination, lifecycle: u8) -> bool
-    ensures { λ r. ⌜ r ≡ (eqb lifecycle 2 && not (isNumber (numberIf (c .authorized) (c .«idle_authorization»)) (c .revision))) ⌝ }
-{
-    if lifecycle == 2 {
-        return !is_authorized(c);
-    }
-    false
-}
-
-fn unmoved(c: Coordination) -> Moved
-    ensures { λ r. ⌜ r ≡ record { coordination = c; said = Nothing } ⌝ }
-{
-    Moved {
-        coordination: c,
-        said: Said::Nothing,
-    }
-}
-
-fn moved_to(c: Coordination, phase: u8, said: Said) -> Moved
-    ensures { λ r. ⌜ r ≡ record { coordination = inPhase phase c; said = said } ⌝ }
-{
-    let mut coordination = c;
-    coordination.phase = phase;
-    Moved { coordination, said }
-}
-
 fn stopped(c: Coordination) -> Moved
     ensures { λ r. ⌜ ((s : Held) → T (represents s) → s .coordination ≡ c → Moves stopOf s r) ⌝ }
 {
     if c.phase == 6 {
-        return unmoved(c);
+        return Moved {
+            coordination: c,
+            says: 0,
+        };
     }
     let coordination = state::without_pending(c, 6);
-    let said = Said::Says(CoordinationAction::Stop);
-    Moved { coordination, said }
+    Moved {
+        coordination,
+        says: 10,
+    }
 }
 
-// What follows once all have this observation and all are cleared.
+// What follows once all have this observation and all are cleared: Park, Recheck, or under CoordinatedTermination without authorization for this revision
+// the wait for it, else Stop.
 fn agreed(c: Coordination, lifecycle: u8, observation: Observation) -> Moved
     ensures { λ r. ⌜ ((s : Held) → T (represents s) → s .coordination ≡ c → s .lifecycle ≡ lifecycle → Moves (rules.agreed observation) s r) ⌝ }
 {
-    let revision = c.revision;
+    let mut coordination = c;
     match observation {
-        Observation::Probed => moved_to(c, 2, Said::Says(CoordinationAction::Park { revision })),
-        Observation::Parked => moved_to(c, 3, Said::Says(CoordinationAction::Recheck { revision })),
+        Observation::Probed => {
+            coordination.phase = 2;
+            Moved {
+                coordination,
+                says: 7,
+            }
+        }
+        Observation::Parked => {
+            coordination.phase = 3;
+            Moved {
+                coordination,
+                says: 8,
+            }
+        }
         Observation::Rechecked => {
-            if lacks_authorization(c, lifecycle) {
-                return moved_to(c, 5, Said::Nothing);
+            if lifecycle == 2 && (!c.authorized || c.idle_authorization != c.revision) {
+                coordination.phase = 5;
+                return Moved {
+                    coordination,
+                    says: 0,
+                };
             }
             stopped(c)
         }
     }
 }
 
-// In AwaitingIdleConfirmation, and of the current revision.
-fn awaits(c: Coordination, revision: CoordinationRevision) -> bool
-    ensures { λ r. ⌜ r ≡ (eqb (c .phase) 5 && eqb revision (c .revision)) ⌝ }
-{
-    if c.phase == 5 {
-        return revision == c.revision;
-    }
-    false
-}
-
 // A new revision keeps late acknowledgements of the first idle check from satisfying the last one.
 fn confirmed(c: Coordination, revision: CoordinationRevision) -> Moved
     ensures { λ r. ⌜ ((s : Held) → T (represents s) → s .coordination ≡ c → Moves (rules.idleConfirmationOf revision) s r) ⌝ }
 {
-    if !awaits(c, revision) {
-        return unmoved(c);
+    if c.phase != 5 || revision != c.revision {
+        return Moved {
+            coordination: c,
+            says: 0,
+        };
     }
     let next = records::next(c.revision);
     let mut coordination = state::without_pending(c, 1);
     coordination.revision = next;
     coordination.authorized = true;
     coordination.idle_authorization = next;
-    let said = Said::Says(CoordinationAction::Probe { revision: next });
-    Moved { coordination, said }
-}
-
-// Writes what is said at the front of the room, and answers how many actions that is.
-fn write_said(room: &mut [u8], said: Said) -> usize
-    requires { ⌜ 56 ≤ length (now room) ⌝ }
-    ensures { λ r. ⌜ r ≡ length (sayings said) ⌝ }
-    ensures bytes { λ _. ⌜ now (room .exit) ≡ putAt (now (room .entry)) 0 (recordsOf (sayings said)) ⌝ }
-{
-    match said {
-        Said::Nothing => 0,
-        Said::Says(action) => {
-            actions::write_action(room, 0, action);
-            1
-        }
+    Moved {
+        coordination,
+        says: 6,
     }
 }
 
@@ -197,43 +147,41 @@ pub fn handle_observation(
 {
     let count = state.count;
     let coordination = state.coordination;
-    if !soundness::is_sound(state) {
-        return calls::with_reply(state, Refusal::UnsoundState, Answer::Silent, 0);
+    let mut place: usize = 0;
+    let mut refusal = Refusal::UnsoundState;
+    if soundness::is_sound(state) {
+        place = table::find(&state.enclaves, count, enclave);
+        refusal = calls::room_first(room.len(), count, calls::tag_first(true, place < count));
     }
-    if room.len() < 56 * (count + 2) {
-        return calls::with_reply(state, Refusal::RoomTooSmall, Answer::Silent, 0);
+    if records::refusal_number(refusal) != 0 {
+        return calls::with_reply(state, refusal, Answer::Silent, 0);
     }
-    let place = table::find(&state.enclaves, count, enclave);
-    if count <= place {
-        return calls::with_reply(state, Refusal::UnknownEnclave, Answer::Silent, 0);
-    }
-    match judged(coordination, revision, observation) {
-        Verdict::Counts => {}
-        Verdict::Ignored => return calls::with_reply(state, Refusal::Taken, Answer::Silent, 0),
+    let mut written: usize = 0;
+    match judged(
+        coordination.phase,
+        coordination.revision,
+        revision,
+        observation,
+    ) {
+        Verdict::Ignored => {}
         Verdict::Refused => {
-            return calls::with_reply(
-                state,
-                Refusal::InvalidObservationTransition,
-                Answer::Silent,
-                0,
-            );
+            refusal = Refusal::InvalidObservationTransition;
+        }
+        Verdict::Counts => {
+            let cell = records::observation_number(observation) + 1;
+            if state.observation[place] != cell {
+                state.observation[place] = cell;
+                if all_observed(&state.observation, count, cell) {
+                    table::clear(&mut state.observation, count);
+                    let moved = agreed(coordination, state.lifecycle, observation);
+                    let next = moved.coordination;
+                    state.coordination = next;
+                    written = emission::add_kind(room, 0, moved.says, 0, next.revision);
+                }
+            }
         }
     }
-    let cell = records::observation_number(observation) + 1;
-    if state.observation[place] == cell {
-        return calls::with_reply(state, Refusal::Taken, Answer::Silent, 0);
-    }
-    state.observation[place] = cell;
-    if !all_observed(&state.observation, count, cell) {
-        return calls::with_reply(state, Refusal::Taken, Answer::Silent, 0);
-    }
-    table::clear(&mut state.observation, count);
-    let moved = agreed(coordination, state.lifecycle, observation);
-    let next = moved.coordination;
-    state.coordination = next;
-    let said = moved.said;
-    let written = write_said(room, said);
-    calls::with_reply(state, Refusal::Taken, Answer::Silent, written)
+    calls::with_reply(state, refusal, Answer::Silent, written)
 }
 
 // Idle confirmation: nothing is running outside, for this revision.
@@ -247,18 +195,19 @@ pub fn handle_idle_confirmation(
 {
     let count = state.count;
     let coordination = state.coordination;
-    if !soundness::is_sound(state) {
-        return calls::with_reply(state, Refusal::UnsoundState, Answer::Silent, 0);
+    let refusal = if soundness::is_sound(state) {
+        calls::room_first(room.len(), count, Refusal::Taken)
+    } else {
+        Refusal::UnsoundState
+    };
+    let mut written: usize = 0;
+    if records::refusal_number(refusal) == 0 {
+        let moved = confirmed(coordination, revision);
+        let next = moved.coordination;
+        state.coordination = next;
+        written = emission::add_kind(room, 0, moved.says, 0, next.revision);
     }
-    if room.len() < 56 * (count + 2) {
-        return calls::with_reply(state, Refusal::RoomTooSmall, Answer::Silent, 0);
-    }
-    let moved = confirmed(coordination, revision);
-    let next = moved.coordination;
-    state.coordination = next;
-    let said = moved.said;
-    let written = write_said(room, said);
-    calls::with_reply(state, Refusal::Taken, Answer::Silent, written)
+    calls::with_reply(state, refusal, Answer::Silent, written)
 }
 
 // Stop, once.
@@ -268,16 +217,17 @@ pub fn stop(mut state: FederateCoordinationState, room: &mut [u8]) -> Called
 {
     let count = state.count;
     let coordination = state.coordination;
-    if !soundness::is_sound(state) {
-        return calls::with_reply(state, Refusal::UnsoundState, Answer::Silent, 0);
+    let refusal = if soundness::is_sound(state) {
+        calls::room_first(room.len(), count, Refusal::Taken)
+    } else {
+        Refusal::UnsoundState
+    };
+    let mut written: usize = 0;
+    if records::refusal_number(refusal) == 0 {
+        let moved = stopped(coordination);
+        let next = moved.coordination;
+        state.coordination = next;
+        written = emission::add_kind(room, 0, moved.says, 0, next.revision);
     }
-    if room.len() < 56 * (count + 2) {
-        return calls::with_reply(state, Refusal::RoomTooSmall, Answer::Silent, 0);
-    }
-    let moved = stopped(coordination);
-    let next = moved.coordination;
-    state.coordination = next;
-    let said = moved.said;
-    let written = write_said(room, said);
-    calls::with_reply(state, Refusal::Taken, Answer::Silent, written)
+    calls::with_reply(state, refusal, Answer::Silent, written)
 }

@@ -1,6 +1,5 @@
 // An event taken by the call that it tells (document 01, "Script and its listing": the seventeen events). Total: what is no event is answered
 // with 11 and changes nothing.
-ghost use mathlib.Core.Path.{_≡_};
 ghost use Rattle.events.specs.Told.{toldEvent};
 ghost use Rattle.take.specs.Takes.{Takes};
 use calls::Called;

@@ -5,11 +5,8 @@ use Rattle.observation.proofs.Deciding.{stop-stopped, stop-running}
 use Rattle.observation.proofs.stopped.Statement.{statement}
 use Rattle.observation.proofs.stopped.Tie as tie
 
-unmoved-requires : tie.Need-unmoved-requires
-unmoved-requires c κs = search needs
-
 returns : tie.Need-returns
-returns c = λ s h e. stop-stopped s h (c .before .before .before .args .c) e (c .unmoved .result) (c .unmoved .ensures) (c .before .if1 .taken)
+returns c = λ s h e. stop-stopped s h (c .before .before .args .c) e _ refl (c .if1 .taken)
 
 without-pending-requires : tie.Need-without-pending-requires
 without-pending-requires c κs = search needs
@@ -18,4 +15,4 @@ returns-2 : tie.Need-returns-2
 returns-2 c = λ s h e. stop-running s h (c .before .before .before .args .c) e _ (rw (c .without-pending .ensures) refl) (c .before .if1 .left)
 
 pub stopped-spec : {M : Type 1} → statement M
-stopped-spec = tie.close (tie.spec unmoved-requires returns without-pending-requires returns-2)
+stopped-spec = tie.close (tie.spec returns without-pending-requires returns-2)
