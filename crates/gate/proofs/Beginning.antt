@@ -5,7 +5,6 @@ use mathlib.Core.Bool.{Bool, true, false, not, cond, _&&_}
 use mathlib.Core.List.{map}
 use Prim.Native.Nat.{ℕ, _+_, _≤_, _<_}
 use native.Mathlib.Omega.{arith}
-use borrow.Author.Tests.{eq-eqb, ne-eqb, not-true, not-false}
 use lib.Dec.{T}
 use lib.IntN.{pos}
 use lib.ListN.{getD, set}
@@ -16,7 +15,6 @@ use Rattle.rules.specs.Walk.{knows, at, only, quiet, isStopped}
 use Rattle.rules.specs.Gate.{mayBegin, begun, beginTagOf}
 use Rattle.rules.specs.Calls.{ownStep, takeStep}
 use Rattle.state.specs.declared.FederateCoordinationState.{FederateCoordinationState as Held}
-use Rattle.state.specs.declared.Gate.{Gate}
 use Rattle.state.specs.Cells.{isAbsent, optionalOf, isNeat, numberIf, observationOf}
 use Rattle.state.specs.View.{tagAt, rowAt, rowsOf, view, represents}
 use Rattle.state.specs.Parts.{Seated}
@@ -28,19 +26,6 @@ use Rattle.state.proofs.Put.{Beyond, plain, past-same, past-set-tag}
 use Rattle.state.proofs.Halves.{stopped-is}
 use Rattle.gate.specs.Parts.{permits}
 use Rattle.state.proofs.Seats.{any-seated, any-unknown}
-
--- ---- the tests of may_begin
-
-module _ (phase : ℕ) (g : Gate) (t : Tag) where
-  pub permits-stopped : phase ≡ 6 → false ≡ permits phase g t
-  permits-stopped e = rw (eq-eqb phase 6 e) refl
-
-  module _ (running : phase ≡ 6 → ⊥) {below : Bool} (q : below ≡ (t ≤ₜ g .«input_horizon»)) where
-    pub permits-above : not below ≡ true → false ≡ permits phase g t
-    permits-above h = rw (ne-eqb phase 6 running, ← q, not-true below h) refl
-
-    pub permits-granted : not below ≡ false → (r : Bool) → r ≡ within t (optionalOf (g .granted)) → r ≡ permits phase g t
-    permits-granted h r e = rw (ne-eqb phase 6 running, ← q, not-false below h) e
 
 -- ---- the rule's tests
 

@@ -1,7 +1,7 @@
 -- What a call of this crate promises at each of its returns, on plain values: the refusal by the tests made so far, the answer by the rule's test, and
 -- the state stored. One law for the four calls that give one tag and name no enclave. Assumes nothing.
 use mathlib.Core.Path.{_≡_, refl, sym, ap, ap₂, _∙_, subst}
-use mathlib.Core.Bool.{Bool, true, false, not, _&&_, _||_}
+use mathlib.Core.Bool.{Bool, true, false, not, cond, _&&_, _||_}
 use mathlib.Core.List.{List, [], _∷_}
 use Prim.Native.Nat.{ℕ, _<_}
 use native.Mathlib.Omega.{arith}
@@ -157,10 +157,10 @@ module _ {c : Call} {t : Tag} {q : State → Bool} (k : Question c t q) (s : Hel
 -- ---- input_is_late, input_completed
 
 module _ (s : Held) (e : ℕ) (t : Tag) where
-  pub late-unknown : knows e (rowsOf s) ≡ false → true ≡ isLate e t (view s)
+  late-unknown : knows e (rowsOf s) ≡ false → true ≡ isLate e t (view s)
   late-unknown h = sym (ap₂ (λ a b. not a || b) h (any-unknown e (λ p. within t (p .started) || within t (p .completed)) (rowsOf s) h))
 
-  pub done-unknown : knows e (rowsOf s) ≡ false → false ≡ isCompleted e t (view s)
+  done-unknown : knows e (rowsOf s) ≡ false → false ≡ isCompleted e t (view s)
   done-unknown h = sym (any-unknown e (λ p. within t (p .completed)) (rowsOf s) h)
 
   module _ (x y : Tag) (f : Finds s e x y) where
@@ -169,19 +169,30 @@ module _ (s : Held) (e : ℕ) (t : Tag) where
         ap₂ (λ a b. within t (optionalOf a) || within t (optionalOf b)) (f .started-is) (f .completed-is) ∙
         sym (ap₂ (λ a b. not a || b) (known s e (f .place) (f .seat)) (any-seated s e (f .place) (f .seat) (λ p. within t (p .started) || within t (p .completed))))
 
-    pub late-started : within t (optionalOf x) ≡ true → true ≡ isLate e t (view s)
-    late-started q = sym (ap (λ b. b || within t (optionalOf y)) q) ∙ late-found
-
-    pub late-completed : within t (optionalOf x) ≡ false → within t (optionalOf y) ≡ isLate e t (view s)
-    late-completed q = sym (ap (λ b. b || within t (optionalOf y)) q) ∙ late-found
-
-    pub done-found : within t (optionalOf y) ≡ isCompleted e t (view s)
+    done-found : within t (optionalOf y) ≡ isCompleted e t (view s)
     done-found = ap (λ b. within t (optionalOf b)) (f .completed-is) ∙ sym (any-seated s e (f .place) (f .seat) (λ p. within t (p .completed)))
 
-pub late-question : (e : ℕ) (t : Tag) → Question (late e t) t (isLate e t)
+late-question : (e : ℕ) (t : Tag) → Question (late e t) t (isLate e t)
 unfolding takeStep ownStep
 late-question e t = record { asks = record { roomless = refl; tags = refl; nameless = refl; right = λ m. refl; unspent = refl }; answers = λ m. refl; still = λ m. refl }
 
-pub done-question : (e : ℕ) (t : Tag) → Question (done e t) t (isCompleted e t)
+done-question : (e : ℕ) (t : Tag) → Question (done e t) t (isCompleted e t)
 unfolding takeStep ownStep
 done-question e t = record { asks = record { roomless = refl; tags = refl; nameless = refl; right = λ m. refl; unspent = refl }; answers = λ m. refl; still = λ m. refl }
+
+-- ---- both, by whether it is asked for `late`
+
+abbrev pub yesTo : Bool → ℕ → Tag → State → Bool
+yesTo b e t m = cond b (isLate e t m) (isCompleted e t m)
+
+pub asked-question : (b : Bool) (e : ℕ) (t : Tag) → Question (cond b (late e t) (done e t)) t (yesTo b e t)
+asked-question true = late-question
+asked-question false = done-question
+
+pub asked-unknown : (b : Bool) (s : Held) (e : ℕ) (t : Tag) → knows e (rowsOf s) ≡ false → b ≡ yesTo b e t (view s)
+asked-unknown true = late-unknown
+asked-unknown false = done-unknown
+
+pub asked-found : (b : Bool) (s : Held) (e : ℕ) (t x y : Tag) → Finds s e x y → ((b && within t (optionalOf x)) || within t (optionalOf y)) ≡ yesTo b e t (view s)
+asked-found true = late-found
+asked-found false = done-found

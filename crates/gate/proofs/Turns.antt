@@ -9,7 +9,7 @@ use native.Mathlib.Omega.{arith}
 use borrow.Author.Tests.{lt-ltb, le-ltb, eq-eqb, ne-eqb}
 use lib.Dec.{eqb}
 use lib.ListN.{length, getD, drop, set, drop-of-length-le}
-use lib.Seq.{drop-cons, set-at, getD-at, append-snoc}
+use lib.Seq.{drop-cons, set-at, set-getD, getD-at, append-snoc}
 use Rattle.rules.specs.Walk.{among}
 use Rattle.state.specs.Walk.{tab, placeFrom}
 use Rattle.state.proofs.Rows.{length-tab}
@@ -60,10 +60,25 @@ tab-set f l d i h =
     joined : tab f 0 i ++ (f i ∷ drop (suc i) l) ≡ tab f 0 (suc i) ++ drop (suc i) l
     joined = sym (ap (λ x. x ++ drop (suc i) l) (tab-last f 0 i i (omega arith)) ∙ append-snoc (tab f 0 i) (f i) (drop (suc i) l))
 
-pub stays-turn : (indices es : List ℕ) (flags left : List Bool) (i : ℕ) (named stays : Bool) → i < length flags → left ≡ unlisted indices es flags i
-    → named ≡ among (getD indices i 0) es → stays ≡ (getD left i false && not named) → set left i stays ≡ unlisted indices es flags (i + 1)
-stays-turn indices es flags left i named stays h p q r =
-    ap₂ (λ l b. set l i b) p (r ∙ ap₂ (λ b x. b && not x) (ap (λ l. getD l i false) p ∙ same) q) ∙ tab-set (staysAt indices es flags) flags false i h
-  where
-    same : getD (unlisted indices es flags i) i false ≡ getD flags i false
-    same = rw (drop-cons flags i false h) (getD-at (tab (staysAt indices es flags) 0 i) (getD flags i false) (drop (suc i) flags) false i (length-tab (staysAt indices es flags) 0 i))
+module _ (indices es : List ℕ) (flags left : List Bool) (i : ℕ) {named : Bool} (h : i < length flags) (p : left ≡ unlisted indices es flags i)
+    (q : named ≡ among (getD indices i 0) es) where
+  stays-turn : (stays : Bool) → stays ≡ (getD left i false && not named) → set left i stays ≡ unlisted indices es flags (i + 1)
+  stays-turn stays r =
+      ap₂ (λ l b. set l i b) p (r ∙ ap₂ (λ b x. b && not x) (ap (λ l. getD l i false) p ∙ same) q) ∙ tab-set (staysAt indices es flags) flags false i h
+    where
+      same : getD (unlisted indices es flags i) i false ≡ getD flags i false
+      same = rw (drop-cons flags i false h) (getD-at (tab (staysAt indices es flags) 0 i) (getD flags i false) (drop (suc i) flags) false i (length-tab (staysAt indices es flags) 0 i))
+
+  pub named-turn : named ≡ true → set left i false ≡ unlisted indices es flags (i + 1)
+  named-turn n = stays-turn false (rw n (never (getD left i false)))
+    where
+      never : (b : Bool) → false ≡ (b && false)
+      never true = refl
+      never false = refl
+
+  pub unnamed-turn : named ≡ false → left ≡ unlisted indices es flags (i + 1)
+  unnamed-turn n = sym (set-getD left i false) ∙ stays-turn (getD left i false) (rw n (always (getD left i false)))
+    where
+      always : (b : Bool) → b ≡ (b && true)
+      always true = refl
+      always false = refl

@@ -1,21 +1,18 @@
 -- What `input_is_late` and `input_completed` promise: the refusal, the answer and the number of actions of every call (calls, Called). The state
 -- cannot change, so none comes back. Assumes nothing.
 use mathlib.Core.Path.{_≡_}
-use mathlib.Core.Bool.{true, false, _&&_}
+use mathlib.Core.Bool.{true, _&&_}
 use Prim.Native.Nat.{ℕ, _+_}
 use lib.ListN.{length}
 use Rattle.tags.specs.Tags.{isProper}
 use Rattle.records.specs.Numbers.{refusalNumber}
 use Rattle.rules.specs.Model.{Tag, Given}
-use Rattle.rules.specs.Walk.{knows}
 use Rattle.rules.specs.Calls.{isSound}
 use Rattle.state.specs.declared.FederateCoordinationState.{FederateCoordinationState as Held}
-use Rattle.state.specs.View.{tagAt, rowsOf, view, represents}
+use Rattle.state.specs.View.{tagAt, view, represents}
 use Rattle.state.specs.Parts.{Seated}
 use Rattle.calls.specs.declared.Reply.{Reply}
 use Rattle.calls.specs.Called.{refusalOf, actionsOf, answerOf}
-use Rattle.gate.specs.declared.Looked.{Looked}
-use Rattle.gate.specs.declared.Looked.the-variants.{Unsound, Improper, Missing, Found}
 
 pub record Replies (g : Given) (s : Held) (r : Reply) : Type 0 where
   pub refusal : refusalNumber (r .refusal) ≡ refusalOf g s
@@ -35,9 +32,3 @@ pub record Finds (s : Held) (e : ℕ) (started completed : Tag) : Type 0 where
   pub seat : Seated s e place
   pub started-is : started ≡ tagAt s (64 + place)
   pub completed-is : completed ≡ tagAt s (32 + place)
-
-abbrev pub Looks : Held → ℕ → Tag → Looked → Type 0
-Looks s e t Unsound = (represents s && isSound (view s)) ≡ false
-Looks s e t Improper = ((represents s && isSound (view s)) ≡ true) × (isProper t ≡ false)
-Looks s e t Missing = Admits s t × (knows e (rowsOf s) ≡ false)
-Looks s e t (Found started completed) = Admits s t × Finds s e started completed

@@ -1,10 +1,11 @@
 -- `gate::still_published` is `unlisted`: after i turns the first i flags are those that stay. Assumes nothing.
 use mathlib.Core.Path.{_≡_, refl, ap, _∙_}
+use mathlib.Core.Logic.{⊎-elim}
 use Prim.Native.Nat.{_≤_, _-_}
 use native.Mathlib.Nat.{le-antisymm}
 use borrow.Author.Needs.{needs}
 use Rattle.gate.specs.Parts.{unlisted}
-use Rattle.gate.proofs.Turns.{stays-turn}
+use Rattle.gate.proofs.Turns.{named-turn, unnamed-turn}
 use Rattle.gate.proofs.still_published.Statement.{statement}
 use Rattle.gate.proofs.still_published.Tie as tie
 
@@ -26,12 +27,6 @@ element-copy-out-is-affected c = search needs
 is-affected-requires : tie.Need-is-affected-requires Inv-loop μ-loop
 is-affected-requires c κs = search needs
 
-array-read-stays : tie.Need-array-read-stays Inv-loop μ-loop
-array-read-stays c = search needs
-
-stays-requires : tie.Need-stays-requires Inv-loop μ-loop
-stays-requires c κs = search needs
-
 array-write-left : tie.Need-array-write-left Inv-loop μ-loop
 array-write-left c = search needs
 
@@ -44,10 +39,12 @@ loop-less c = search needs
 loop-again : tie.Need-loop-again Inv-loop μ-loop
 loop-again c =
     let l = c .before .before .before .before .loop in
-    let a = c .before .before .before .before .before .before .args in (
+    let a = c .before .before .before .before .before .before .args in
+    let named = c .before .is-affected .ensures in (
       search needs,
-      stays-turn (a .enclaves .now) (a .affected .now) (a .published) (l .left) (l .i) (c .before .is-affected .result) (c .stays .result)
-          (search needs) (l .inv .1) (search needs) (search needs),
+      ⊎-elim (λ w. w .1 ∙ named-turn (a .enclaves .now) (a .affected .now) (a .published) (l .left) (l .i) (search needs) (l .inv .1) named (w .0 .taken))
+          (λ w. w .1 ∙ unnamed-turn (a .enclaves .now) (a .affected .now) (a .published) (l .left) (l .i) (search needs) (l .inv .1) named (w .0 .left))
+          (c .if1 .came),
     )
 
 returns : tie.Need-returns Inv-loop μ-loop
@@ -63,8 +60,6 @@ still-published-spec =
     mul-is-affected
     element-copy-out-is-affected
     is-affected-requires
-    array-read-stays
-    stays-requires
     array-write-left
     add-i
     loop-less
