@@ -7,19 +7,18 @@ use mathlib.Core.List.{List, _∷_, map}
 use Prim.Native.Nat.{ℕ, _<_}
 use native.Mathlib.Omega.{arith}
 use lib.Dec.{T, eqb}
-use Rattle.tags.specs.Tags.{_≡ₜ_, isProper, isPresent, cappedBy}
-use Rattle.rules.specs.Model.{Tag, NoTag, At, NonePending, Stored, AdvanceHorizon}
+use Rattle.tags.specs.Tags.{_≤ₜ_, lesserOf, greaterOf, isProper, isPresent, cappedBy}
+use Rattle.rules.specs.Model.{Tag, NoTag, At, NonePending, NoneStored, Stored, AdvanceHorizon}
 use Rattle.rules.specs.Set.{withParticipants, withPendingPublication, withGrantHorizon, withInputAcquisition}
 use Rattle.rules.specs.Walk.{emit, outdated}
 use Rattle.rules.specs.Acquisition.{isNewer, stored, isGrantable, grants, grantedUpTo, raisedHorizon, notAbove, nothingNew, isPending, grantOf, acquireCapped, acquisitionOf}
 use Rattle.rules.proofs.Frame.{if-true}
-use Rattle.rules.proofs.Invariants.{and-intro}
 use Rattle.rules.proofs.Sound.{capped-proper, sound-proper-horizon, sound-proper-input-horizon, grant-keeps-sound}
 use Rattle.state.specs.declared.FederateCoordinationState.{FederateCoordinationState as Held}
 use Rattle.state.specs.declared.Coordination.{Coordination}
 use Rattle.state.specs.declared.Gate.{Gate}
-use Rattle.state.specs.Cells.{absent, isAbsent, isZeroUnless, optionalOf, storedOf, publicationIf}
-use Rattle.state.specs.View.{view, rowAt, rowsOf, neatCoordination, neatGate}
+use Rattle.state.specs.Cells.{isAbsent, isZeroUnless, optionalOf, storedOf, publicationIf}
+use Rattle.state.specs.View.{view, rowAt, rowsOf, neatGate}
 use Rattle.state.specs.Parts.{withoutPending, withGate}
 use Rattle.state.specs.Decides.{Good}
 use Rattle.state.proofs.Rows.{proper-present, neat-cell, each-rows, every-row}
@@ -44,6 +43,41 @@ reachOf g t = cappedBy (optionalOf (g .«input_horizon»)) t
 
 abbrev nothing : Coordination → Tag → Tag → Bool
 nothing c h t = not (c .pending) && notAbove t (optionalOf h)
+
+pub capped-free : (cap t : Tag) → isAbsent cap ≡ true → t ≡ cappedBy (optionalOf cap) t
+capped-free cap t h = rw h refl
+
+pub capped-lesser : (cap t : Tag) → isAbsent cap ≡ false → lesserOf t cap ≡ cappedBy (optionalOf cap) t
+capped-lesser cap t h = rw h refl
+
+pub raised-free : (h t : Tag) → isAbsent h ≡ true → t ≡ raisedHorizon (optionalOf h) t
+raised-free h t e = rw e refl
+
+pub raised-greater : (h t : Tag) → isAbsent h ≡ false → greaterOf h t ≡ raisedHorizon (optionalOf h) t
+raised-greater h t e = rw e refl
+
+pub nothing-as : (c : Coordination) (h t : Tag) {a b : Bool} → a ≡ isAbsent h → b ≡ (t ≤ₜ h) → (not (c .pending) && (a || b)) ≡ nothing c h t
+nothing-as c h t p q = ap (λ b. not (c .pending) && b) ((λ i. p i || q i) ∙ go (isAbsent h))
+  where
+    go : (b : Bool) → (b || (t ≤ₜ h)) ≡ notAbove t (cond b NoTag (At h))
+    go true = refl
+    go false = refl
+
+pub newer-as : (r q : ℕ) (t u : Tag) {a b : Bool} → a ≡ isAbsent u → b ≡ (t ≤ₜ u) → (a || not (eqb q r) || not b) ≡ isNewer r t (storedOf q u)
+newer-as r q t u e f = (λ i. e i || not (eqb q r) || not (f i)) ∙ go (isAbsent u)
+  where
+    go : (b : Bool) → (b || not (eqb q r) || not (t ≤ₜ u)) ≡ isNewer r t (cond b NoneStored (Stored q u))
+    go true = refl
+    go false = refl
+
+pub worth-as : (r : ℕ) (t : Tag) (g : Gate) {a b v : Bool} → a ≡ isAbsent (g .«input_horizon») → b ≡ isNewer r t (storedOf (g .«stored_revision») (g .«stored_granted»))
+    → (a || not b) ≡ v → worth r t g ≡ not v
+worth-as r t g {v = v} e f h = go (isAbsent (g .«input_horizon»)) (isNewer r t (storedOf (g .«stored_revision») (g .«stored_granted»))) ((λ i. sym e i || not (sym f i)) ∙ h)
+  where
+    go : (x y : Bool) → (x || not y) ≡ v → (isPresent (cond x NoTag (At (g .«input_horizon»))) && y) ≡ not v
+    go true y k = ap not k
+    go false true k = ap not k
+    go false false k = ap not k
 
 -- ---- what the code answers
 

@@ -1,13 +1,13 @@
 // What an acquisition decides (document 01, "Acquisition"; state.rs: handle_acquisition): the small parts, the flags of those granted, and the records of
 // the Grants. Nothing is refused here; a count beyond the columns is the caller's to exclude.
 ghost use mathlib.Core.Path.{_≡_};
-ghost use mathlib.Core.Bool.{not, cond, _&&_, _||_};
+ghost use mathlib.Core.Bool.{cond, _&&_};
 ghost use mathlib.Core.List.{[], _∷_};
 ghost use Prim.Native.Nat.{_+_, _≤_};
-ghost use lib.Dec.{T, eqb};
-ghost use Rattle.tags.specs.Tags.{isProper, isPresent, atOrBelow, cappedBy};
+ghost use lib.Dec.{T};
+ghost use Rattle.tags.specs.Tags.{isProper, isPresent, atOrBelow};
 ghost use Rattle.rules.specs.Model.{Grant};
-ghost use Rattle.rules.specs.Acquisition.{isNewer, raisedHorizon, notAbove, tagOr};
+ghost use Rattle.rules.specs.Acquisition.{isNewer, tagOr};
 ghost use Rattle.emission.specs.Written.{Adds};
 ghost use Rattle.state.specs.declared.FederateCoordinationState.{FederateCoordinationState as Held};
 ghost use Rattle.state.specs.Cells.{optionalOf, storedOf};
@@ -28,79 +28,22 @@ pub struct Acquired {
     pub gate: Gate,
 }
 
-fn is_outdated(c: Coordination, revision: u64) -> bool
-    ensures { λ r. ⌜ r ≡ (eqb (c .phase) 6 || not (eqb revision (c .revision))) ⌝ }
-{
-    if c.phase == 6 {
-        return true;
-    }
-    revision != c.revision
-}
-
-fn is_newer(g: Gate, revision: u64, tag: Tag) -> bool
-    ensures { λ r. ⌜ r ≡ isNewer revision tag (storedOf (g .«stored_revision») (g .«stored_granted»)) ⌝ }
-{
-    let stored = g.stored_granted;
-    if state::is_absent(stored) {
-        return true;
-    }
-    if g.stored_revision != revision {
-        return true;
-    }
-    !tags::at_or_below(tag, stored)
-}
-
 // The acquisition is kept as it came, for the input horizon may move.
 fn stored(g: Gate, revision: u64, tag: Tag) -> Gate
     ensures { λ r. ⌜ r ≡ cond (isPresent (optionalOf (g .«input_horizon»)) && isNewer revision tag (storedOf (g .«stored_revision») (g .«stored_granted»))) (storing revision tag g) g ⌝ }
 {
     let cap = g.input_horizon;
-    if state::is_absent(cap) {
+    let last = g.stored_granted;
+    let newer = state::is_absent(last)
+        | (g.stored_revision != revision)
+        | !tags::at_or_below(tag, last);
+    if state::is_absent(cap) | !newer {
         return g;
     }
-    if is_newer(g, revision, tag) {
-        let mut kept = g;
-        kept.stored_revision = revision;
-        kept.stored_granted = tag;
-        return kept;
-    }
-    g
-}
-
-fn capped(cap: Tag, tag: Tag) -> Tag
-    ensures { λ r. ⌜ r ≡ cappedBy (optionalOf cap) tag ⌝ }
-{
-    if state::is_absent(cap) {
-        return tag;
-    }
-    tags::lesser(tag, cap)
-}
-
-fn raised(horizon: Tag, tag: Tag) -> Tag
-    ensures { λ r. ⌜ r ≡ raisedHorizon (optionalOf horizon) tag ⌝ }
-{
-    if state::is_absent(horizon) {
-        return tag;
-    }
-    tags::greater(horizon, tag)
-}
-
-fn is_not_above(horizon: Tag, tag: Tag) -> bool
-    ensures { λ r. ⌜ r ≡ notAbove tag (optionalOf horizon) ⌝ }
-{
-    if state::is_absent(horizon) {
-        return true;
-    }
-    tags::at_or_below(tag, horizon)
-}
-
-fn brings_nothing(c: Coordination, horizon: Tag, tag: Tag) -> bool
-    ensures { λ r. ⌜ r ≡ (not (c .pending) && notAbove tag (optionalOf horizon)) ⌝ }
-{
-    if c.pending {
-        return false;
-    }
-    is_not_above(horizon, tag)
+    let mut kept = g;
+    kept.stored_revision = revision;
+    kept.stored_granted = tag;
+    kept
 }
 
 // What an acquisition of this revision and tag decides, the flags and the records aside.
@@ -113,38 +56,40 @@ pub fn acquire(
 ) -> Acquired
     ensures { λ r. ⌜ ((s : Held) → Good s → T (isProper tag) → s .coordination ≡ coordination → s .gate ≡ gate → s .«grant_horizon» ≡ horizon → Acquires revision tag s r) ⌝ }
 {
-    if is_outdated(coordination, revision) {
-        return Acquired {
-            grants: false,
-            tag,
-            horizon,
-            coordination,
-            gate,
-        };
+    let mut acquired = Acquired {
+        grants: false,
+        tag,
+        horizon,
+        coordination,
+        gate,
+    };
+    if (coordination.phase == 6) | (revision != coordination.revision) {
+        return acquired;
     }
     let cap = gate.input_horizon;
-    let reach = capped(cap, tag);
-    let kept = stored(gate, revision, tag);
-    if brings_nothing(coordination, horizon, reach) {
-        return Acquired {
-            grants: false,
-            tag: reach,
-            horizon,
-            coordination,
-            gate: kept,
-        };
+    let reach = if state::is_absent(cap) {
+        tag
+    } else {
+        tags::lesser(tag, cap)
+    };
+    let mut kept = stored(gate, revision, tag);
+    acquired.tag = reach;
+    acquired.gate = kept;
+    let unset = state::is_absent(horizon);
+    if !coordination.pending & (unset | tags::at_or_below(reach, horizon)) {
+        return acquired;
     }
-    let further = raised(horizon, reach);
-    let settled = state::without_pending(coordination, coordination.phase);
-    let mut open = kept;
-    open.granted = reach;
-    Acquired {
-        grants: true,
-        tag: reach,
-        horizon: further,
-        coordination: settled,
-        gate: open,
-    }
+    let further = if unset {
+        reach
+    } else {
+        tags::greater(horizon, reach)
+    };
+    kept.granted = reach;
+    acquired.grants = true;
+    acquired.horizon = further;
+    acquired.coordination = state::without_pending(coordination, coordination.phase);
+    acquired.gate = kept;
+    acquired
 }
 
 fn is_grantable(published: bool, candidate: Tag, tag: Tag) -> bool

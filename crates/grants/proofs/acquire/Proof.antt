@@ -1,65 +1,83 @@
 -- `grants::acquire` decides the rule, in its three ways. Assumes nothing.
-use mathlib.Core.Path.{refl}
+use mathlib.Core.Path.{_≡_, refl, sym, _∙_}
+use mathlib.Core.Logic.{⊎-elim}
 use borrow.Author.Needs.{needs}
-use Rattle.grants.proofs.Decision.{answers-outdated, answers-nothing, answers-grants}
+use Rattle.tags.specs.Tags.{cappedBy}
+use Rattle.rules.specs.Acquisition.{raisedHorizon}
+use Rattle.state.specs.Cells.{optionalOf}
+use Rattle.grants.proofs.Decision.{capped-free, capped-lesser, raised-free, raised-greater, nothing-as, answers-outdated, answers-nothing, answers-grants}
 use Rattle.grants.proofs.acquire.Statement.{statement}
 use Rattle.grants.proofs.acquire.Tie as tie
 
-is-outdated-requires : tie.Need-is-outdated-requires
-is-outdated-requires c κs = search needs
+-- the tag, capped
+capped : (c : tie.Joined2) → let a = c .before .before .before .before .before .before .args in c .if2 .reach ≡ cappedBy (optionalOf (a .gate .«input_horizon»)) (a .tag)
+capped c =
+    let a = c .before .before .before .before .before .before .args in
+    let cap = a .gate .«input_horizon» in
+    let e = sym (c .before .is-absent .ensures) in
+    ⊎-elim (λ w. w .1 ∙ capped-free cap (a .tag) (e ∙ w .0 .taken)) (λ w. w .2 ∙ w .1 .ensures ∙ capped-lesser cap (a .tag) (e ∙ w .0 .left)) (c .if2 .came)
+
+-- the horizon, raised to it
+raised : (c : tie.Joined4) → c .if4 .further ≡ raisedHorizon (optionalOf (c .before .before .before .before .before .before .before .before .before .before .before .before .args .horizon)) (c .before .before .before .before .before .before .if2 .reach)
+raised c =
+    let u = c .before .before .before .before .before .before .if2 .reach in
+    let h = c .before .before .before .before .before .before .before .before .before .before .before .before .args .horizon in
+    let e = sym (c .before .before .before .before .is-absent2 .ensures) in
+    ⊎-elim (λ w. w .1 ∙ raised-free h u (e ∙ w .0 .taken)) (λ w. w .2 ∙ w .1 .ensures ∙ raised-greater h u (e ∙ w .0 .left)) (c .if4 .came)
 
 returns : tie.Need-returns
 returns c =
-    let a = c .before .before .args in
-    answers-outdated (a .revision) (a .tag) (a .coordination) (a .gate) (a .horizon) _ (c .before .is-outdated .ensures) (c .if1 .taken)
+    let a = c .before .before .before .args in
+    answers-outdated (a .revision) (a .tag) (a .coordination) (a .gate) (a .horizon) _ refl (c .if1 .taken)
 
-capped-requires : tie.Need-capped-requires
-capped-requires c κs = search needs
+is-absent-requires : tie.Need-is-absent-requires
+is-absent-requires c κs = tt
+
+lesser-requires : tie.Need-lesser-requires
+lesser-requires c κs = search needs
 
 stored-requires : tie.Need-stored-requires
 stored-requires c κs = search needs
 
-brings-nothing-requires : tie.Need-brings-nothing-requires
-brings-nothing-requires c κs = search needs
+is-absent-requires-2 : tie.Need-is-absent-requires-2
+is-absent-requires-2 c κs = tt
+
+at-or-below-requires : tie.Need-at-or-below-requires
+at-or-below-requires c κs = search needs
 
 returns-2 : tie.Need-returns-2
 returns-2 c =
-    let n = c .before in
-    let k = n .before in
-    let u = k .before in
-    let o = u .before .before .before in
-    let a = o .before .args in
-    answers-nothing (a .revision) (a .tag) (a .coordination) (a .gate) (a .horizon) _ (o .is-outdated .ensures) (u .before .before .if1 .left)
-    _ (k .stored .ensures) _ (u .capped .ensures) _ (n .brings-nothing .ensures) (c .if2 .taken)
+    let k = c .before .before .before .before in
+    let a = k .before .before .before .before .before .before .before .args in
+    answers-nothing (a .revision) (a .tag) (a .coordination) (a .gate) (a .horizon) _ refl (k .before .before .before .before .if1 .left)
+    _ (k .stored .ensures) _ (capped (k .before)) _ (nothing-as (a .coordination) (a .horizon) _ (c .before .before .before .is-absent2 .ensures) (c .before .at-or-below .ensures)) (c .if3 .taken)
 
-raised-requires : tie.Need-raised-requires
-raised-requires c κs = search needs
+greater-requires : tie.Need-greater-requires
+greater-requires c κs = search needs
 
 without-pending-requires : tie.Need-without-pending-requires
 without-pending-requires c κs = search needs
 
 returns-3 : tie.Need-returns-3
 returns-3 c =
-    let f = c .before in
-    let n = f .before .before in
-    let k = n .before in
-    let u = k .before in
-    let o = u .before .before .before in
-    let a = o .before .args in
-    answers-grants (a .revision) (a .tag) (a .coordination) (a .gate) (a .horizon) _ (o .is-outdated .ensures) (u .before .before .if1 .left)
-    _ (k .stored .ensures) _ (u .capped .ensures) _ (n .brings-nothing .ensures)
-    _ (f .raised .ensures) _ (c .without-pending .ensures) _ refl (f .before .if2 .left)
+    let n = c .before .before in
+    let k = n .before .before .before .before in
+    let a = k .before .before .before .before .before .before .before .args in
+    answers-grants (a .revision) (a .tag) (a .coordination) (a .gate) (a .horizon) _ refl (k .before .before .before .before .if1 .left)
+    _ (k .stored .ensures) _ (capped (k .before)) _ (nothing-as (a .coordination) (a .horizon) _ (n .before .before .before .is-absent2 .ensures) (n .before .at-or-below .ensures))
+    _ (raised (c .before)) _ (c .without-pending .ensures) _ refl (n .if3 .left)
 
 pub acquire-spec : {M : Type 1} → statement M
 acquire-spec =
     tie.close
     (tie.spec
-    is-outdated-requires
     returns
-    capped-requires
+    is-absent-requires
+    lesser-requires
     stored-requires
-    brings-nothing-requires
+    is-absent-requires-2
+    at-or-below-requires
     returns-2
-    raised-requires
+    greater-requires
     without-pending-requires
     returns-3)
