@@ -2,16 +2,16 @@
 use mathlib.Core.Path.{_≡_, refl, sym, ap, _∙_}
 use mathlib.Core.Bool.{Bool, true, false, cond}
 use mathlib.Core.List.{List, [], _∷_, _++_, append-nil, append-assoc}
-use Prim.Native.Nat.{ℕ, zero, suc, _+_, _*_}
+use Prim.Native.Nat.{ℕ, zero, suc, _+_, _*_, _≤_}
 use native.Mathlib.Numerals.{add-one}
 use native.Mathlib.Omega.{arith}
-use lib.Dec.{eqb}
+use borrow.Author.Tests.{eq-eqb, ne-eqb}
 use lib.ListN.{length, length-append}
 use Rattle.bytes.specs.Runs.{written}
 use Rattle.actions.specs.Record.{recordOf, recordsOf}
 use Rattle.bytes.proofs.Runs.{put-nil, length-put, written-fits}
 use Rattle.actions.proofs.Record.{length-record, length-records, put-next}
-use Rattle.rules.specs.Model.{CoordinationAction}
+use Rattle.rules.specs.Model.{Abort, CoordinationAction}
 use Rattle.state.specs.Decides.{saidOf}
 use Rattle.state.specs.Walk.{eachFrom}
 use Rattle.emission.specs.Written.{Written, Adds}
@@ -41,8 +41,14 @@ add-then more last room room₁ room₂ n n₁ n₂ f g room₀ acts w h =
     rw (← append-assoc acts more last) (g room₀ (acts ++ more) (f room₀ acts w (omega arith)) (omega arith))
 
 -- no kind without tags
-pub said-none : (k e r : ℕ) → eqb k 6 ≡ false → eqb k 7 ≡ false → eqb k 8 ≡ false → eqb k 9 ≡ false → eqb k 10 ≡ false → eqb k 11 ≡ false → [] ≡ saidOf k e r
-said-none k e r a b c d f g = rw (a, b, c, d, f, g) refl
+pub said-outside : (k e r : ℕ) → (6 ≤ k → k ≤ 11 → ⊥) → [] ≡ saidOf k e r
+said-outside k e r out =
+    rw (ne-eqb k 6 (λ z. out (omega arith) (omega arith)), ne-eqb k 7 (λ z. out (omega arith) (omega arith)), ne-eqb k 8 (λ z. out (omega arith) (omega arith)),
+    ne-eqb k 9 (λ z. out (omega arith) (omega arith)), ne-eqb k 10 (λ z. out (omega arith) (omega arith)), ne-eqb k 11 (λ z. out (omega arith) (omega arith))) refl
+
+-- the last of the kinds, where it is none of the others
+pub said-last : (k e r : ℕ) → (k ≡ 6 → ⊥) → (k ≡ 7 → ⊥) → (k ≡ 8 → ⊥) → (k ≡ 9 → ⊥) → (k ≡ 10 → ⊥) → 6 ≤ k → k ≤ 11 → saidOf k e r ≡ Abort ∷ []
+said-last k e r a b c d f l m = rw (ne-eqb k 6 a, ne-eqb k 7 b, ne-eqb k 8 c, ne-eqb k 9 d, ne-eqb k 10 f, eq-eqb k 11 (omega arith)) refl
 
 -- one place more, the last
 each-last : {A : Type 0} (q : ℕ → Bool) (f : ℕ → A) (n k j : ℕ) → j ≡ k + n → eachFrom q f k (suc n) ≡ eachFrom q f k n ++ cond (q j) (f j ∷ []) []

@@ -52,25 +52,33 @@ pub fn add_grant(room: &mut [u8], written: usize, enclave: u32, tag: Tag) -> usi
     written + 1
 }
 
+// The action of a kind without tags; a number of no such kind is taken for the last.
+fn plain_action(kind: u8, enclave: u32, revision: u64) -> CoordinationAction
+    ensures { λ r. ⌜ (6 ≤ kind → kind ≤ 11 → saidOf kind enclave revision ≡ r ∷ []) ⌝ }
+{
+    match kind {
+        6 => CoordinationAction::Probe { revision },
+        7 => CoordinationAction::Park { revision },
+        8 => CoordinationAction::Recheck { revision },
+        9 => CoordinationAction::Resume { enclave, revision },
+        10 => CoordinationAction::Stop,
+        0..=5 | 11..=255 => CoordinationAction::Abort,
+    }
+}
+
 // Adds the action of a kind without tags, or none where the number is of no such kind.
 pub fn add_kind(room: &mut [u8], written: usize, kind: u8, enclave: u32, revision: u64) -> usize
     requires { ⌜ written ≤ 64 ⌝ }
     ensures { λ r. ⌜ Adds (saidOf kind enclave revision) (now (room .entry)) written (now (room .exit)) r ⌝ }
     ensures few { λ r. ⌜ r ≤ written + 1 ⌝ }
 {
-    match kind {
-        6 => add(room, written, CoordinationAction::Probe { revision }),
-        7 => add(room, written, CoordinationAction::Park { revision }),
-        8 => add(room, written, CoordinationAction::Recheck { revision }),
-        9 => add(
-            room,
-            written,
-            CoordinationAction::Resume { enclave, revision },
-        ),
-        10 => add(room, written, CoordinationAction::Stop),
-        11 => add(room, written, CoordinationAction::Abort),
-        0..=5 | 12..=255 => written,
+    if kind < 6 {
+        return written;
     }
+    if 11 < kind {
+        return written;
+    }
+    add(room, written, plain_action(kind, enclave, revision))
 }
 
 // Adds a CompletionProbe where the enclave lags behind the frontier.
