@@ -1,6 +1,6 @@
 -- A taken acquisition keeps its promise: the state with what `acquire` decided holds a state of document 01, is the entry state past the count and
 -- shows the rule's, and the records written one after the other are those of the rule's actions. Assumes nothing.
-use mathlib.Core.Path.{_≡_, refl, ap}
+use mathlib.Core.Path.{_≡_, refl, ap, _∙_}
 use mathlib.Core.Bool.{Bool, true, false}
 use mathlib.Core.List.{List, [], _∷_}
 use Prim.Native.Nat.{ℕ, _+_, _*_, _≤_}
@@ -16,6 +16,7 @@ use Rattle.emission.specs.Written.{Adds}
 use Rattle.emission.proofs.Adding.{none-written}
 use Rattle.state.specs.declared.FederateCoordinationState.{FederateCoordinationState as Held}
 use Rattle.state.specs.View.{represents}
+use Rattle.state.specs.Parts.{withGate}
 use Rattle.state.proofs.Neat.{neat-parts, represents-of}
 use Rattle.state.proofs.Columns.{place}
 use Rattle.state.proofs.Put.{plain, Past, Beyond, past-same}
@@ -61,13 +62,15 @@ module _ (n r : ℕ) (t : Tag) (s : Held) (st : Standing s) (zero-is : 0 ≡ ref
       microsteps = past-same place 0 (s .count) (s .microsteps) (s .microsteps) refl;
     }
 
-  pub stays-promised : (room : List ℕ) (c : Called) → a .grants ≡ false → c ≡ replied (acquiredIn s a (s .published)) Taken Silent 0
+  pub stays-promised : (room : List ℕ) (c : Called) → a .grants ≡ false → c ≡ replied (withGate (a .gate) s) Taken Silent 0
       → Ends (lent n (acquire r t)) s c room room
   unfolding takeStep ownStep
   stays-promised room c h e =
+      let k = decided .still h in
+      let same : withGate (a .gate) s ≡ acquiredIn s a (s .published) = rw (k .0, k .1) refl in
       let past = past-same plain false (s .count) (s .published) (s .published) refl in
       ends-quiet (lent n (acquire r t)) s room refl st zero-is (acquiredIn s a (s .published))
-      (acquired-beyond (s .published) past) (acquired-neat (s .published) past) (decided .stays h) e
+      (acquired-beyond (s .published) past) (acquired-neat (s .published) past) (decided .stays h) (e ∙ ap (λ (x : Held). replied x Taken Silent 0) same)
 
   pub moves-promised : (room room₁ room₂ : List ℕ) (k₁ k₂ : ℕ) (qs : List Bool) (c : Called) → 56 * (s .count + 2) ≤ length room
       → a .grants ≡ true → Adds (AdvanceHorizon (a .horizon) ∷ []) room 0 room₁ k₁ → Adds (grantsIn s (a .tag)) room₁ k₁ room₂ k₂

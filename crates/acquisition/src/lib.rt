@@ -145,15 +145,15 @@ pub fn handle_acquisition(
     let held_coordination = state::coordination_by_fields(coordination);
     let held_gate = state::gate_by_fields(gate);
     let acquired = grants::acquire(held_coordination, held_gate, horizon, acquisition.revision, tag);
-    let settled = acquired.coordination;
     let opened = acquired.gate;
-    let further = acquired.horizon;
-    state.coordination = settled;
     state.gate = opened;
-    state.grant_horizon = further;
     if !acquired.grants {
         return calls::with_reply(state, Refusal::Taken, Answer::Silent, 0);
     }
+    let settled = acquired.coordination;
+    let further = acquired.horizon;
+    state.coordination = settled;
+    state.grant_horizon = further;
     let reach = acquired.tag;
     let advanced = emission::add_horizon(room, further);
     let written = grants::add_grants(

@@ -128,6 +128,7 @@ module _ (r : ℕ) (t : Tag) (p : T (isProper t)) (s : Held) (good : Good s) whe
     neat = neat-coordination s (good .neat);
     tidy = neat-gate s (good .neat);
     cell = neat-horizon s (good .neat);
+    still = λ z. (refl, refl);
     stays = λ z. rw (outdated-is ∙ y) refl;
     moves = λ z. absurd (let w : _≡_ {A = ℕ} 0 1 = cc in omega arith);
   }
@@ -159,6 +160,7 @@ module _ (r : ℕ) (t : Tag) (p : T (isProper t)) (s : Held) (good : Good s) whe
       neat = neat-coordination s (good .neat);
       tidy = kept-neat;
       cell = neat-horizon s (good .neat);
+      still = λ z. (refl, refl);
       stays = λ z. goes-on ∙ rw (nothing-is ∙ n) refl;
       moves = λ z. absurd (let w : _≡_ {A = ℕ} 0 1 = cc in omega arith);
     }
@@ -201,6 +203,7 @@ module _ (r : ℕ) (t : Tag) (p : T (isProper t)) (s : Held) (good : Good s) whe
       neat = neat-without-pending (s .coordination) (s .coordination .phase) (phase-bound s (good .neat)) (neat-coordination s (good .neat));
       tidy = open-neat;
       cell = neat-cell (At (granted .horizon)) raised-proper;
+      still = λ z. absurd (let w : _≡_ {A = ℕ} 0 1 = cc in omega arith);
       stays = λ z. absurd (let w : _≡_ {A = ℕ} 0 1 = cc in omega arith);
       moves = λ z qs u. goes-on ∙ rw (nothing-is ∙ n) (grant-is qs u);
     }

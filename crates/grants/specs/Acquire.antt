@@ -78,6 +78,7 @@ pub record Acquires (r : ℕ) (t : Tag) (s : Held) (a : Acquired) : Type 0 where
   pub neat : T (neatCoordination (a .coordination))
   pub tidy : T (neatGate (a .gate))
   pub cell : T (isNeat (a .horizon))
+  pub still : a .grants ≡ false → (a .coordination ≡ s .coordination) × (a .horizon ≡ s .«grant_horizon»)
   pub stays : a .grants ≡ false → acquisitionOf r t (view s) ≡ quiet (view (acquiredIn s a (s .published)))
   pub moves : a .grants ≡ true → (qs : List Bool) → Unpublished (s .published) (s .seconds) (s .nanoseconds) (s .microsteps) (s .count) (a .tag) qs
       → acquisitionOf r t (view s) ≡ emit (AdvanceHorizon (a .horizon) ∷ grantsIn s (a .tag)) (view (acquiredIn s a qs))

@@ -185,7 +185,7 @@ with-reply-requires-3 c κs = tt
 
 returns-3 : tie.Need-returns-3
 returns-3 c =
-    let d = c .before .before .before .before .before .before in
+    let d = c .before .before .before .before in
     let q = past d in
     let a = start q .args in
     stays-promised (length (a .room .now)) (a .acquisition .revision) (a .acquisition .granted) (a .t1) (stands (home q)) (passed q) (d .acquire .result) (decided d)
@@ -229,7 +229,7 @@ returns-4 c =
     let q = past d in
     let a = start q .args in
     moves-promised (length (a .room .now)) (a .acquisition .revision) (a .acquisition .granted) (a .t1) (stands (home q)) (passed q) (d .acquire .result) (decided d)
-    (a .room .now) _ _ _ _ _ _ (none q .0) (not-false (d .acquire .result .grants) (f .before .before .before .if3 .left))
+    (a .room .now) _ _ _ _ _ _ (none q .0) (not-false (d .acquire .result .grants) (f .before .before .before .before .before .if3 .left))
     (f .add-horizon .ensures .0) (w .add-grants .ensures) (c .before .unpublished .ensures) (c .with-reply4 .ensures)
 
 pub handle-acquisition-spec : {M : Type 1} → statement M
