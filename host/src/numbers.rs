@@ -88,11 +88,11 @@ pub struct ActionNumbers {
 #[repr(C)]
 #[derive(Clone, Copy, Debug, Eq, PartialEq)]
 pub struct Coordination {
-    pub revision: u64,
     pub phase: u8,
     pub authorized: bool,
-    pub idle_authorization: u64,
     pub pending: bool,
+    pub revision: u64,
+    pub idle_authorization: u64,
     pub pending_revision: u64,
     pub pending_next_event: Tag,
     pub pending_grant_horizon: Tag,
@@ -135,8 +135,8 @@ pub struct Held {
     pub gate: Gate,
     pub grant_horizon: Tag,
     pub failed: bool,
-    pub first_failure: u32,
     pub lifecycle: u8,
+    pub first_failure: u32,
 }
 
 #[repr(C)]
@@ -154,10 +154,10 @@ const SIZES: [(usize, usize); 10] = [
     (size_of::<ReplyNumbers>(), 16),
     (size_of::<AskedNumbers>(), 80),
     (size_of::<ActionNumbers>(), 80),
-    (size_of::<Coordination>(), 88),
+    (size_of::<Coordination>(), 80),
     (size_of::<Completion>(), 104),
     (size_of::<Gate>(), 80),
-    (size_of::<Held>(), 2_720),
+    (size_of::<Held>(), 2_704),
 ];
 
 const _: () = {
