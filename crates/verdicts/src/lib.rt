@@ -1,12 +1,8 @@
 // The observation verdicts (document 01, "looked up in a table of seven phases by three observations"; state.rs: handle_observation). Nothing is refused here.
 ghost use mathlib.Core.Path.{_≡_};
-ghost use Prim.Native.Nat.{_*_, _+_, _≤_};
-ghost use lib.ListN.{getD};
-ghost use Rattle.records.specs.Numbers.{verdictNumber};
-ghost use Rattle.rules.specs.Model.{Ignored};
+ghost use Prim.Native.Nat.{_≤_};
 ghost use Rattle.rules.specs.Observation as rules;
 ghost use Rattle.state.specs.Cells.{phaseOf};
-ghost use Rattle.verdicts.specs.Numbered.{verdictNumbered};
 use records::CoordinationPhase;
 use records::Observation;
 use records::Verdict;
@@ -36,16 +32,13 @@ const VERDICTS: [u8; 21] = [
     1, // Stopped, Rechecked
 ];
 
-fn looked_up(phase: u8, observation: u8) -> u8
-    requires { ⌜ (phase ≤ 6) × (observation ≤ 2) ⌝ }
-    ensures { λ r. ⌜ r ≡ verdictNumber (getD rules.verdicts (phase * 3 + observation) Ignored) ⌝ }
+// What becomes of an observation in the phase of this number.
+pub fn verdict_in(phase: u8, observation: Observation) -> Verdict
+    requires { ⌜ phase ≤ 6 ⌝ }
+    ensures { λ r. ⌜ r ≡ rules.verdictOf (phaseOf phase) observation ⌝ }
 {
-    VERDICTS[(phase * 3 + observation) as usize]
-}
-
-fn verdict_of(number: u8) -> Verdict
-    ensures { λ r. ⌜ r ≡ verdictNumbered number ⌝ }
-{
+    let column = records::observation_number(observation);
+    let number = VERDICTS[(phase * 3 + column) as usize];
     if number == 0 {
         return Verdict::Counts;
     }
@@ -53,15 +46,6 @@ fn verdict_of(number: u8) -> Verdict
         return Verdict::Ignored;
     }
     Verdict::Refused
-}
-
-// What becomes of an observation in the phase of this number.
-pub fn verdict_in(phase: u8, observation: Observation) -> Verdict
-    requires { ⌜ phase ≤ 6 ⌝ }
-    ensures { λ r. ⌜ r ≡ rules.verdictOf (phaseOf phase) observation ⌝ }
-{
-    let column = records::observation_number(observation);
-    verdict_of(looked_up(phase, column))
 }
 
 // What becomes of an observation in a phase.

@@ -1,24 +1,52 @@
--- `verdicts::verdict_in` meets its contract: the looked-up number is the verdict's. Assumes nothing.
-use borrow.Author.Needs.{needs}
-use Rattle.verdicts.proofs.Table.{observation-bound, looked-up-verdict}
+-- `verdicts::verdict_in` meets its contract: the table of numbers is that of the verdicts, entry by entry, which antt computes, and the number looked up is the
+-- verdict's. Assumes nothing.
+use mathlib.Core.Path.{refl}
+use Prim.Native.Nat.{_+_, _*_, _≤_, _<_}
+use native.Mathlib.Omega.{arith}
+use borrow.Author.Tests.{eq-eqb, ne-eqb}
+use Rattle.verdicts.proofs.Table.{observation-bound, table-entry, looked-up-verdict}
 use Rattle.verdicts.proofs.verdict_in.Statement.{statement}
 use Rattle.verdicts.proofs.verdict_in.Tie as tie
+
+column : (c : tie.After-observation-number) → c .observation-number .result ≤ 2
+column c = rw (c .observation-number .ensures) (observation-bound (c .before .args .observation))
 
 observation-number-requires : tie.Need-observation-number-requires
 observation-number-requires c κs = tt
 
-looked-up-requires : tie.Need-looked-up-requires
-looked-up-requires c κs = (c .before .pre, rw (c .observation-number .ensures) (observation-bound (c .before .args .observation)))
+mul-number : tie.Need-mul-number
+mul-number c = let h = c .before .pre in record { fits = omega arith }
 
-verdict-of-requires : tie.Need-verdict-of-requires
-verdict-of-requires c κs = search needs
+add-number : tie.Need-add-number
+add-number c = let h = c .before .pre in let k = column c in record { fits = omega arith }
+
+cast-number : tie.Need-cast-number
+cast-number c = let h = c .before .pre in let k = column c in omega arith
+
+array-read-number : tie.Need-array-read-number
+array-read-number c = let h = c .before .pre in let k = column c in omega arith
+
+-- the verdict of the number at this place
+looks : (c : tie.After-observation-number) → let a = c .before .args in let k = a .phase * 3 + c .observation-number .result in k < 21
+looks c = let h = c .before .pre in let k = column c in omega arith
 
 returns : tie.Need-returns
 returns c =
-    let a = c .before .before .before .args in
-    looked-up-verdict (a .phase) (a .observation) (c .before .before .before .pre)
-    (c .before .before .observation-number .ensures) (c .before .looked-up .ensures) (c .verdict-of .ensures)
+    let d = c .before in
+    let a = d .before .args in
+    looked-up-verdict (a .phase) (a .observation) (d .before .pre) (d .observation-number .ensures) (table-entry _ refl _ (looks d)) (rw (eq-eqb _ 0 (c .if1 .taken)) refl)
+
+returns-2 : tie.Need-returns-2
+returns-2 c =
+    let d = c .before .before in
+    let a = d .before .args in
+    looked-up-verdict (a .phase) (a .observation) (d .before .pre) (d .observation-number .ensures) (table-entry _ refl _ (looks d)) (rw (ne-eqb _ 0 (c .before .if1 .left), eq-eqb _ 1 (c .if2 .taken)) refl)
+
+returns-3 : tie.Need-returns-3
+returns-3 c =
+    let d = c .before .before in
+    let a = d .before .args in
+    looked-up-verdict (a .phase) (a .observation) (d .before .pre) (d .observation-number .ensures) (table-entry _ refl _ (looks d)) (rw (ne-eqb _ 0 (c .before .if1 .left), ne-eqb _ 1 (c .if2 .left)) refl)
 
 pub verdict-in-spec : {M : Type 1} → statement M
-verdict-in-spec =
-    tie.close (tie.spec observation-number-requires looked-up-requires verdict-of-requires returns)
+verdict-in-spec = tie.close (tie.spec observation-number-requires mul-number add-number cast-number array-read-number returns returns-2 returns-3)
