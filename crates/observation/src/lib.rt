@@ -43,7 +43,7 @@ fn judged(
     requires { ⌜ phase ≤ 6 ⌝ }
     ensures { λ r. ⌜ r ≡ cond (unheardBy phase current revision) Ignored (rules.verdictOf (phaseOf phase) observation) ⌝ }
 {
-    if phase == 6 || revision != current || phase == 5 {
+    if (phase == 6) | (revision != current) | (phase == 5) {
         return Verdict::Ignored;
     }
     verdicts::verdict_in(phase, observation)
@@ -101,7 +101,7 @@ fn agreed(c: Coordination, lifecycle: u8, observation: Observation) -> Moved
             }
         }
         Observation::Rechecked => {
-            if lifecycle == 2 && (!c.authorized || c.idle_authorization != c.revision) {
+            if (lifecycle == 2) & !(c.authorized & (c.idle_authorization == c.revision)) {
                 coordination.phase = 5;
                 return Moved {
                     coordination,
@@ -117,7 +117,8 @@ fn agreed(c: Coordination, lifecycle: u8, observation: Observation) -> Moved
 fn confirmed(c: Coordination, revision: CoordinationRevision) -> Moved
     ensures { λ r. ⌜ ((s : Held) → T (represents s) → s .coordination ≡ c → Moves (rules.idleConfirmationOf revision) s r) ⌝ }
 {
-    if c.phase != 5 || revision != c.revision {
+    let awaits = (c.phase == 5) & (revision == c.revision);
+    if !awaits {
         return Moved {
             coordination: c,
             says: 0,
