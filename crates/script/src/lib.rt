@@ -154,25 +154,10 @@ pub fn is_event(line: &[u8]) -> bool
     ensures { λ r. ⌜ r ≡ isGiven (eventOf (now (line .entry))) ⌝ }
 {
     let event = eventlines::read_event(line);
-    match event {
-        Event::NoEvent => false,
-        Event::Active(_) => true,
-        Event::Publish(_, _) => true,
-        Event::Complete(_, _, _) => true,
-        Event::Observed(_, _) => true,
-        Event::Stopped(_) => true,
-        Event::Failed(_) => true,
-        Event::Acquire(_, _) => true,
-        Event::Sent(_, _, _) => true,
-        Event::Observe(_, _, _) => true,
-        Event::Idle(_) => true,
-        Event::Stop => true,
-        Event::Horizon(_) => true,
-        Event::Begin(_, _) => true,
-        Event::Late(_, _) => true,
-        Event::Done(_, _) => true,
-        Event::Input(_) => true,
-        Event::Progress => true,
+    if let Event::NoEvent = event {
+        false
+    } else {
+        true
     }
 }
 

@@ -1,8 +1,42 @@
 -- `script::is_event` tells whether the line is an event: by the event that it was read as. Assumes nothing.
+use mathlib.Core.Path.{_≡_, refl, sym, ap, _∙_}
+use mathlib.Core.Bool.{true}
+use mathlib.Core.List.{List, [], _∷_}
+use Prim.Native.Nat.{ℕ}
+use types.Run.{OneOf, miss}
+use denote.Enum.Declared.{tagOf}
 use borrow.Author.Needs.{needs}
+use Rattle.events.specs.declared.Event.{Event}
+use Rattle.events.specs.declared.Event.the-variants as event
+use Rattle.events.proofs.Event.{the-type}
+use Rattle.events.specs.Told.{toldEvent, isGiven}
 use Rattle.script.proofs.Turns.{event-given}
 use Rattle.script.proofs.is_event.Statement.{statement}
 use Rattle.script.proofs.is_event.Tie as tie
+
+-- the places of the variants after the first one
+abbrev later : List ℕ
+later = 1 ∷ 2 ∷ 3 ∷ 4 ∷ 5 ∷ 6 ∷ 7 ∷ 8 ∷ 9 ∷ 10 ∷ 11 ∷ 12 ∷ 13 ∷ 14 ∷ 15 ∷ 16 ∷ 17 ∷ []
+
+some-event : (e : Event) (es : List ℕ) → OneOf later (tagOf the-type e) → true ≡ isGiven (toldEvent e es)
+some-event event.NoEvent es k = absurd (miss later 0 tt k)
+some-event (event.Active e) es k = refl
+some-event (event.Publish e t) es k = refl
+some-event (event.Complete e t m) es k = refl
+some-event (event.Observed e g) es k = refl
+some-event (event.Stopped e) es k = refl
+some-event (event.Failed e) es k = refl
+some-event (event.Acquire r t) es k = refl
+some-event (event.Sent r t h) es k = refl
+some-event (event.Observe e r o) es k = refl
+some-event (event.Idle r) es k = refl
+some-event event.Stop es k = refl
+some-event (event.Horizon t) es k = refl
+some-event (event.Begin e t) es k = refl
+some-event (event.Late e t) es k = refl
+some-event (event.Done e t) es k = refl
+some-event (event.Input n) es k = refl
+some-event event.Progress es k = refl
 
 read-event-requires : tie.Need-read-event-requires
 read-event-requires c κs = search needs
@@ -10,149 +44,11 @@ read-event-requires c κs = search needs
 enum-told : tie.Need-enum-told
 enum-told c = search needs
 
-enum-told-2 : tie.Need-enum-told-2
-enum-told-2 c = search needs
-
-enum-told-3 : tie.Need-enum-told-3
-enum-told-3 c = search needs
-
-enum-told-4 : tie.Need-enum-told-4
-enum-told-4 c = search needs
-
-enum-told-5 : tie.Need-enum-told-5
-enum-told-5 c = search needs
-
-enum-told-6 : tie.Need-enum-told-6
-enum-told-6 c = search needs
-
-enum-told-7 : tie.Need-enum-told-7
-enum-told-7 c = search needs
-
-enum-told-8 : tie.Need-enum-told-8
-enum-told-8 c = search needs
-
-enum-told-9 : tie.Need-enum-told-9
-enum-told-9 c = search needs
-
-enum-told-10 : tie.Need-enum-told-10
-enum-told-10 c = search needs
-
-enum-told-11 : tie.Need-enum-told-11
-enum-told-11 c = search needs
-
-enum-told-12 : tie.Need-enum-told-12
-enum-told-12 c = search needs
-
-enum-told-13 : tie.Need-enum-told-13
-enum-told-13 c = search needs
-
-enum-told-14 : tie.Need-enum-told-14
-enum-told-14 c = search needs
-
-enum-told-15 : tie.Need-enum-told-15
-enum-told-15 c = search needs
-
-enum-told-16 : tie.Need-enum-told-16
-enum-told-16 c = search needs
-
-enum-told-17 : tie.Need-enum-told-17
-enum-told-17 c = search needs
-
-enum-told-18 : tie.Need-enum-told-18
-enum-told-18 c = search needs
-
 returns : tie.Need-returns
 returns c = event-given _ (c .enum-told .given .1) (c .before .before .read-event .ensures)
 
 returns-2 : tie.Need-returns-2
-returns-2 c = event-given _ (c .enum-told2 .given .1) (c .before .before .read-event .ensures)
-
-returns-3 : tie.Need-returns-3
-returns-3 c = event-given _ (c .enum-told3 .given .1) (c .before .before .read-event .ensures)
-
-returns-4 : tie.Need-returns-4
-returns-4 c = event-given _ (c .enum-told4 .given .1) (c .before .before .read-event .ensures)
-
-returns-5 : tie.Need-returns-5
-returns-5 c = event-given _ (c .enum-told5 .given .1) (c .before .before .read-event .ensures)
-
-returns-6 : tie.Need-returns-6
-returns-6 c = event-given _ (c .enum-told6 .given .1) (c .before .before .read-event .ensures)
-
-returns-7 : tie.Need-returns-7
-returns-7 c = event-given _ (c .enum-told7 .given .1) (c .before .before .read-event .ensures)
-
-returns-8 : tie.Need-returns-8
-returns-8 c = event-given _ (c .enum-told8 .given .1) (c .before .before .read-event .ensures)
-
-returns-9 : tie.Need-returns-9
-returns-9 c = event-given _ (c .enum-told9 .given .1) (c .before .before .read-event .ensures)
-
-returns-10 : tie.Need-returns-10
-returns-10 c = event-given _ (c .enum-told10 .given .1) (c .before .before .read-event .ensures)
-
-returns-11 : tie.Need-returns-11
-returns-11 c = event-given _ (c .enum-told11 .given .1) (c .before .before .read-event .ensures)
-
-returns-12 : tie.Need-returns-12
-returns-12 c = event-given _ (c .enum-told12 .given .1) (c .before .before .read-event .ensures)
-
-returns-13 : tie.Need-returns-13
-returns-13 c = event-given _ (c .enum-told13 .given .1) (c .before .before .read-event .ensures)
-
-returns-14 : tie.Need-returns-14
-returns-14 c = event-given _ (c .enum-told14 .given .1) (c .before .before .read-event .ensures)
-
-returns-15 : tie.Need-returns-15
-returns-15 c = event-given _ (c .enum-told15 .given .1) (c .before .before .read-event .ensures)
-
-returns-16 : tie.Need-returns-16
-returns-16 c = event-given _ (c .enum-told16 .given .1) (c .before .before .read-event .ensures)
-
-returns-17 : tie.Need-returns-17
-returns-17 c = event-given _ (c .enum-told17 .given .1) (c .before .before .read-event .ensures)
-
-returns-18 : tie.Need-returns-18
-returns-18 c = event-given _ (c .enum-told18 .given .1) (c .before .before .read-event .ensures)
+returns-2 c = some-event (c .before .read-event .result) _ (c .match .keys2) ∙ ap isGiven (c .before .read-event .ensures)
 
 pub is-event-spec : {M : Type 1} → statement M
-is-event-spec =
-    tie.close
-    (tie.spec
-    read-event-requires
-    enum-told
-    enum-told-2
-    enum-told-3
-    enum-told-4
-    enum-told-5
-    enum-told-6
-    enum-told-7
-    enum-told-8
-    enum-told-9
-    enum-told-10
-    enum-told-11
-    enum-told-12
-    enum-told-13
-    enum-told-14
-    enum-told-15
-    enum-told-16
-    enum-told-17
-    enum-told-18
-    returns
-    returns-2
-    returns-3
-    returns-4
-    returns-5
-    returns-6
-    returns-7
-    returns-8
-    returns-9
-    returns-10
-    returns-11
-    returns-12
-    returns-13
-    returns-14
-    returns-15
-    returns-16
-    returns-17
-    returns-18)
+is-event-spec = tie.close (tie.spec read-event-requires enum-told returns returns-2)
