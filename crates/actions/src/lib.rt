@@ -18,14 +18,14 @@ use tags::OptionalTag;
 use tags::Tag;
 
 // What a record's bytes are made of: what the action's kind does not use is zero, absent or no.
-struct Fields {
-    kind: u8,
-    enclave: u32,
+pub struct Fields {
+    pub kind: u8,
+    pub enclave: u32,
     // The revision or the generation.
-    number: u64,
-    first: OptionalTag,
-    second: OptionalTag,
-    network_input: bool,
+    pub number: u64,
+    pub first: OptionalTag,
+    pub second: OptionalTag,
+    pub network_input: bool,
 }
 
 // What reading finds: an action, or 28.
@@ -82,7 +82,8 @@ fn completed(c: FederateCompletion) -> Fields
     tagged(4, 0, tag, c.network_input)
 }
 
-fn fields_of(action: CoordinationAction) -> Fields
+// What the action's record is made of.
+pub fn fields_of(action: CoordinationAction) -> Fields
     ensures { λ r. ⌜ r ≡ fieldsOf action ⌝ }
 {
     match action {

@@ -4,24 +4,20 @@ use mathlib.Core.Bool.{Bool, true, false, cond}
 use mathlib.Core.List.{List, [], _∷_, _++_}
 use Rattle.numerals.specs.Numerals.{text}
 use Rattle.printing.specs.Printing.{decimal, optionalTagText}
-use Rattle.fields.specs.Words.{markText, answerText, phaseText}
+use Rattle.fields.specs.Words.{phaseText}
 use Rattle.fields.specs.declared.Field.{Field}
-use Rattle.fields.specs.declared.Field.the-variants.{Blank, Number, Time, Mark, Said, Phase}
+use Rattle.fields.specs.declared.Field.the-variants.{Blank, Number, Time, Phase}
 
 abbrev pub isBlank : Field → Bool
 isBlank Blank = true
 isBlank (Number n) = false
 isBlank (Time t) = false
-isBlank (Mark b) = false
-isBlank (Said a) = false
 isBlank (Phase p) = false
 
 abbrev pub wordOf : Field → List ℕ
 wordOf Blank = []
 wordOf (Number n) = decimal n
 wordOf (Time t) = optionalTagText t
-wordOf (Mark b) = markText b
-wordOf (Said a) = answerText a
 wordOf (Phase p) = phaseText p
 
 -- the most bytes that the word takes
@@ -29,8 +25,6 @@ abbrev pub roomOf : Field → ℕ
 roomOf Blank = 0
 roomOf (Number n) = 20
 roomOf (Time t) = 64
-roomOf (Mark b) = 1
-roomOf (Said a) = 1
 roomOf (Phase p) = 24
 
 -- the words of those that are not blank

@@ -7,9 +7,7 @@ ghost use mathlib.Core.List.{[], _∷_};
 ghost use lib.ListN.{length};
 ghost use Rattle.printing.specs.Runs.{Puts};
 ghost use Rattle.fields.specs.Words.{line, phaseText};
-ghost use Rattle.fields.specs.Fields.{isBlank, wordOf, roomOf, words, fieldText, fieldsText, rest};
-ghost use Rattle.fields.specs.declared.Field.the-variants.{Mark, Said};
-use records::Answer;
+ghost use Rattle.fields.specs.Fields.{wordOf, roomOf, words, fieldText, fieldsText, rest};
 use records::CoordinationPhase;
 use tags::OptionalTag;
 
@@ -18,55 +16,25 @@ pub enum Field {
     Blank,
     Number(u64),
     Time(OptionalTag),
-    Mark(bool),
-    Said(Answer),
     Phase(CoordinationPhase),
-}
-
-fn is_blank(field: Field) -> bool
-    ensures { λ r. ⌜ r ≡ isBlank field ⌝ }
-{
-    match field {
-        Field::Blank => true,
-        Field::Number(_) => false,
-        Field::Time(_) => false,
-        Field::Mark(_) => false,
-        Field::Said(_) => false,
-        Field::Phase(_) => false,
-    }
 }
 
 fn put_phase(out: &mut [u8], at: usize, phase: CoordinationPhase) -> usize
     requires { ⌜ at + 24 ≤ length (now out) ⌝ }
     ensures { λ r. ⌜ Puts (now (out .entry)) at (phaseText phase) 24 r (now (out .exit)) ⌝ }
 {
-    match phase {
-        CoordinationPhase::Active => printing::put_text(out, at, b"active"),
-        CoordinationPhase::Probing => printing::put_text(out, at, b"probing"),
-        CoordinationPhase::Parking => printing::put_text(out, at, b"parking"),
-        CoordinationPhase::Rechecking => printing::put_text(out, at, b"rechecking"),
-        CoordinationPhase::Parked => printing::put_text(out, at, b"parked"),
-        CoordinationPhase::AwaitingIdleConfirmation => {
-            printing::put_text(out, at, b"awaitingidleconfirmation")
-        }
-        CoordinationPhase::Stopped => printing::put_text(out, at, b"stopped"),
-    }
-}
-
-fn mark_byte(mark: bool) -> u8
-    ensures { λ r. ⌜ wordOf (Mark mark) ≡ r ∷ [] ⌝ }
-{
-    if mark { b'1' } else { b'0' }
-}
-
-fn answer_byte(answer: Answer) -> u8
-    ensures { λ r. ⌜ wordOf (Said answer) ≡ r ∷ [] ⌝ }
-{
-    match answer {
-        Answer::Silent => b'-',
-        Answer::No => b'0',
-        Answer::Yes => b'1',
-    }
+    let words: &[u8] = b"active probing parking rechecking parked awaitingidleconfirmation stopped";
+    let from: usize = match phase {
+        CoordinationPhase::Active => 0,
+        CoordinationPhase::Probing => 7,
+        CoordinationPhase::Parking => 15,
+        CoordinationPhase::Rechecking => 23,
+        CoordinationPhase::Parked => 34,
+        CoordinationPhase::AwaitingIdleConfirmation => 41,
+        CoordinationPhase::Stopped => 66,
+    };
+    let end = from + numerals::find(&words[from..], 32);
+    printing::put_text(out, at, &words[from..end])
 }
 
 fn put_word(out: &mut [u8], at: usize, field: Field) -> usize
@@ -77,8 +45,6 @@ fn put_word(out: &mut [u8], at: usize, field: Field) -> usize
         Field::Blank => at,
         Field::Number(n) => printing::put_decimal(out, at, n),
         Field::Time(tag) => printing::put_optional_tag(out, at, tag),
-        Field::Mark(mark) => printing::put_byte(out, at, mark_byte(mark)),
-        Field::Said(answer) => printing::put_byte(out, at, answer_byte(answer)),
         Field::Phase(phase) => put_phase(out, at, phase),
     }
 }
@@ -87,7 +53,7 @@ fn put_field(out: &mut [u8], at: usize, field: Field) -> usize
     requires { ⌜ at + 1 + roomOf field ≤ length (now out) ⌝ }
     ensures { λ r. ⌜ Puts (now (out .entry)) at (fieldText field) (1 + roomOf field) r (now (out .exit)) ⌝ }
 {
-    if is_blank(field) {
+    if let Field::Blank = field {
         return at;
     }
     let word = printing::put_byte(out, at, b' ');

@@ -1,16 +1,12 @@
 // The listing's lines (document 01, "Script and its listing"), put into lent room from a place on; the answer is the place after the line.
 // New here: the Rust prints nothing. Nothing is refused: the callers lend room for the longest line of its kind, and every byte outside
 // the line keeps its value.
-ghost use Prim.Native.Nat.{_+_, _*_, _≤_, _<_};
+ghost use Prim.Native.Nat.{_+_, _*_, _≤_};
 ghost use mathlib.Core.Path.{_≡_};
-ghost use mathlib.Core.List.{[], _∷_};
 ghost use lib.ListN.{length, drop};
 ghost use Rattle.records.specs.Numbers.{refusalNumber};
 ghost use Rattle.actions.specs.Reading.{readAction};
-ghost use Rattle.records.specs.declared.CoordinationAction.the-variants.{Publish, AdvanceHorizon, Grant, Complete};
-ghost use Rattle.printing.specs.Printing.{decimal};
 ghost use Rattle.printing.specs.Runs.{Puts};
-ghost use Rattle.fields.specs.Words.{line};
 ghost use Rattle.listing.specs.Listing.{actionLine, eventLine, endLine, misplacedLine, refusedLine};
 ghost use Rattle.listing.specs.Records.{recordLine, recordLines};
 use actions::ReadAction;
@@ -18,129 +14,45 @@ use fields::Field;
 use records::Answer;
 use records::CoordinationAction;
 use records::CoordinationPhase;
-use records::FederateCompletion;
-use records::FederatePublication;
 use records::Refusal;
 use tags::OptionalTag;
-use tags::Tag;
 
-fn put_publish(out: &mut [u8], at: usize, p: FederatePublication) -> usize
-    requires { ⌜ at + 160 ≤ length (now out) ⌝ }
-    ensures { λ r. ⌜ Puts (now (out .entry)) at (actionLine (Publish p)) 160 r (now (out .exit)) ⌝ }
-{
-    let next_event = p.next_event;
-    let grant_horizon = p.grant_horizon;
-    fields::put_line(
-        out,
-        at,
-        b"publish",
-        Field::Number(p.revision),
-        Field::Time(next_event),
-        Field::Time(grant_horizon),
-    )
-}
-
-fn put_complete(out: &mut [u8], at: usize, c: FederateCompletion) -> usize
-    requires { ⌜ at + 160 ≤ length (now out) ⌝ }
-    ensures { λ r. ⌜ Puts (now (out .entry)) at (actionLine (Complete c)) 160 r (now (out .exit)) ⌝ }
-{
-    let tag = c.completed;
-    fields::put_line(
-        out,
-        at,
-        b"complete",
-        Field::Time(OptionalTag::At(tag)),
-        Field::Mark(c.network_input),
-        Field::Blank,
-    )
-}
-
-fn put_numbered(out: &mut [u8], at: usize, word: &[u8], number: u64) -> usize
-    requires { ⌜ (at + 160 ≤ length (now out)) × (length (now word) ≤ 16) ⌝ }
-    ensures { λ r. ⌜ Puts (now (out .entry)) at (line (now (word .entry) ∷ decimal number ∷ [])) 160 r (now (out .exit)) ⌝ }
-{
-    fields::put_line(
-        out,
-        at,
-        word,
-        Field::Number(number),
-        Field::Blank,
-        Field::Blank,
-    )
-}
-
-fn put_two_numbers(out: &mut [u8], at: usize, word: &[u8], first: u32, second: u64) -> usize
-    requires { ⌜ (at + 160 ≤ length (now out)) × (length (now word) ≤ 16) ⌝ }
-    ensures { λ r. ⌜ Puts (now (out .entry)) at (line (now (word .entry) ∷ decimal first ∷ decimal second ∷ [])) 160 r (now (out .exit)) ⌝ }
-{
-    fields::put_line(
-        out,
-        at,
-        word,
-        Field::Number(first as u64),
-        Field::Number(second),
-        Field::Blank,
-    )
-}
-
-fn put_grant(out: &mut [u8], at: usize, enclave: u32, tag: Tag) -> usize
-    requires { ⌜ at + 160 ≤ length (now out) ⌝ }
-    ensures { λ r. ⌜ Puts (now (out .entry)) at (actionLine (Grant enclave tag)) 160 r (now (out .exit)) ⌝ }
-{
-    fields::put_line(
-        out,
-        at,
-        b"grant",
-        Field::Number(enclave as u64),
-        Field::Time(OptionalTag::At(tag)),
-        Field::Blank,
-    )
-}
-
-fn put_advance(out: &mut [u8], at: usize, tag: Tag) -> usize
-    requires { ⌜ at + 160 ≤ length (now out) ⌝ }
-    ensures { λ r. ⌜ Puts (now (out .entry)) at (actionLine (AdvanceHorizon tag)) 160 r (now (out .exit)) ⌝ }
-{
-    fields::put_line(
-        out,
-        at,
-        b"advance",
-        Field::Time(OptionalTag::At(tag)),
-        Field::Blank,
-        Field::Blank,
-    )
-}
-
-fn put_plain(out: &mut [u8], at: usize, word: &[u8]) -> usize
-    requires { ⌜ (at + 160 ≤ length (now out)) × (length (now word) ≤ 16) ⌝ }
-    ensures { λ r. ⌜ Puts (now (out .entry)) at (line (now (word .entry) ∷ [])) 160 r (now (out .exit)) ⌝ }
-{
-    fields::put_line(out, at, word, Field::Blank, Field::Blank, Field::Blank)
-}
-
-// Puts the action's line.
+// Puts the action's line: its word, and what its kind carries.
 pub fn put_action(out: &mut [u8], at: usize, action: CoordinationAction) -> usize
     requires { ⌜ at + 160 ≤ length (now out) ⌝ }
     ensures { λ r. ⌜ Puts (now (out .entry)) at (actionLine action) 160 r (now (out .exit)) ⌝ }
 {
-    match action {
-        CoordinationAction::Publish(p) => put_publish(out, at, p),
-        CoordinationAction::AdvanceHorizon { tag } => put_advance(out, at, tag),
-        CoordinationAction::Grant { enclave, tag } => put_grant(out, at, enclave, tag),
-        CoordinationAction::Complete(c) => put_complete(out, at, c),
-        CoordinationAction::CompletionProbe {
-            enclave,
-            generation,
-        } => put_two_numbers(out, at, b"completion-probe", enclave, generation),
-        CoordinationAction::Probe { revision } => put_numbered(out, at, b"probe", revision),
-        CoordinationAction::Park { revision } => put_numbered(out, at, b"park", revision),
-        CoordinationAction::Recheck { revision } => put_numbered(out, at, b"recheck", revision),
-        CoordinationAction::Resume { enclave, revision } => {
-            put_two_numbers(out, at, b"resume", enclave, revision)
-        }
-        CoordinationAction::Stop => put_plain(out, at, b"stop"),
-        CoordinationAction::Abort => put_plain(out, at, b"abort"),
-    }
+    let words: &[u8] =
+        b"publish advance grant complete completion-probe probe park recheck resume stop abort ";
+    let starts: [usize; 12] = [0, 8, 16, 22, 31, 48, 54, 59, 67, 74, 79, 85];
+    let f = actions::fields_of(action);
+    let kind = f.kind;
+    let first = f.first;
+    let second = f.second;
+    let number = match kind {
+        3 | 5 | 9 => f.enclave as u64,
+        _ => f.number,
+    };
+    let one = match kind {
+        2 | 4 => Field::Time(first),
+        10 | 11 => Field::Blank,
+        _ => Field::Number(number),
+    };
+    let two = match kind {
+        1 | 3 => Field::Time(first),
+        4 => Field::Number(f.network_input as u64),
+        5 | 9 => Field::Number(f.number),
+        _ => Field::Blank,
+    };
+    let three = if kind == 1 {
+        Field::Time(second)
+    } else {
+        Field::Blank
+    };
+    let n = kind as usize;
+    let from = starts[n - 1];
+    let end = starts[n] - 1;
+    fields::put_line(out, at, &words[from..end], one, two, three)
 }
 
 fn put_record(out: &mut [u8], at: usize, records: &[u8], from: usize) -> usize
@@ -185,11 +97,17 @@ pub fn put_event(
 {
     let after = printing::put_decimal(out, at, number);
     let refused = records::refusal_number(refusal) as u64;
+    // `-`, 0 or 1: as an absent tag or a number is put.
+    let said = match answer {
+        Answer::Silent => Field::Time(OptionalTag::NoTag),
+        Answer::No => Field::Number(0),
+        Answer::Yes => Field::Number(1),
+    };
     fields::put_rest(
         out,
         after,
         Field::Number(refused),
-        Field::Said(answer),
+        said,
         Field::Number(actions as u64),
     )
 }
@@ -221,7 +139,7 @@ pub fn put_end(
         half,
         Field::Time(completed_frontier),
         Field::Time(grant_horizon),
-        Field::Mark(settled),
+        Field::Number(settled as u64),
     )
 }
 
@@ -230,7 +148,14 @@ pub fn put_refused(out: &mut [u8], at: usize, refusal: Refusal) -> usize
     requires { ⌜ at + 160 ≤ length (now out) ⌝ }
     ensures { λ r. ⌜ Puts (now (out .entry)) at (refusedLine (refusalNumber refusal)) 160 r (now (out .exit)) ⌝ }
 {
-    put_numbered(out, at, b"refused", records::refusal_number(refusal) as u64)
+    fields::put_line(
+        out,
+        at,
+        b"refused",
+        Field::Number(records::refusal_number(refusal) as u64),
+        Field::Blank,
+        Field::Blank,
+    )
 }
 
 // Puts the one line of a script that breaks its form, with the place of its first bad line.
@@ -238,5 +163,12 @@ pub fn put_misplaced(out: &mut [u8], at: usize, place: usize) -> usize
     requires { ⌜ at + 160 ≤ length (now out) ⌝ }
     ensures { λ r. ⌜ Puts (now (out .entry)) at (misplacedLine place) 160 r (now (out .exit)) ⌝ }
 {
-    put_two_numbers(out, at, b"refused", 11, place as u64)
+    fields::put_line(
+        out,
+        at,
+        b"refused",
+        Field::Number(11),
+        Field::Number(place as u64),
+        Field::Blank,
+    )
 }

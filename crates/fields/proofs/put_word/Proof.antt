@@ -23,26 +23,8 @@ put-optional-tag-requires c κs = let h = rw (c .before .before .field2 .given .
 enum-known-field-3 : tie.Need-enum-known-field-3
 enum-known-field-3 c = search needs
 
-mark-byte-requires : tie.Need-mark-byte-requires
-mark-byte-requires c κs = search needs
-
-put-byte-requires : tie.Need-put-byte-requires
-put-byte-requires c κs = let h = rw (c .before .before .before .field3 .given .1) at (c .before .before .before .before .before .before .pre) in omega arith
-
-enum-known-field-4 : tie.Need-enum-known-field-4
-enum-known-field-4 c = search needs
-
-answer-byte-requires : tie.Need-answer-byte-requires
-answer-byte-requires c κs = search needs
-
-put-byte-requires-2 : tie.Need-put-byte-requires-2
-put-byte-requires-2 c κs = let h = rw (c .before .before .before .field4 .given .1) at (c .before .before .before .before .before .before .pre) in omega arith
-
-enum-known-field-5 : tie.Need-enum-known-field-5
-enum-known-field-5 c = search needs
-
 put-phase-requires : tie.Need-put-phase-requires
-put-phase-requires c κs = let h = rw (c .before .before .field5 .given .1) at (c .before .before .before .before .before .pre) in omega arith
+put-phase-requires c κs = let h = rw (c .before .before .field3 .given .1) at (c .before .before .before .before .before .pre) in omega arith
 
 returns : tie.Need-returns
 returns c = let s = c .before .before .before .args in rw (c .enum-told .given .1) (put-nothing (s .out .now) (s .at) 0)
@@ -63,19 +45,7 @@ same-length-3 : tie.Need-same-length-3
 same-length-3 c = search needs
 
 returns-4 : tie.Need-returns-4
-returns-4 c = rw (c .before .before .before .before .before .before .field3 .given .1, c .before .before .before .mark-byte .ensures) (c .before .before .put-byte .ensures)
-
-same-length-4 : tie.Need-same-length-4
-same-length-4 c = search needs
-
-returns-5 : tie.Need-returns-5
-returns-5 c = rw (c .before .before .before .before .before .before .field4 .given .1, c .before .before .before .answer-byte .ensures) (c .before .before .put-byte2 .ensures)
-
-same-length-5 : tie.Need-same-length-5
-same-length-5 c = search needs
-
-returns-6 : tie.Need-returns-6
-returns-6 c = rw (c .before .before .before .before .before .field5 .given .1) (c .before .before .put-phase .ensures)
+returns-4 c = rw (c .before .before .before .before .before .field3 .given .1) (c .before .before .put-phase .ensures)
 
 pub put-word-spec : {M : Type 1} → statement M
 put-word-spec =
@@ -87,12 +57,6 @@ put-word-spec =
     enum-known-field-2
     put-optional-tag-requires
     enum-known-field-3
-    mark-byte-requires
-    put-byte-requires
-    enum-known-field-4
-    answer-byte-requires
-    put-byte-requires-2
-    enum-known-field-5
     put-phase-requires
     returns
     same-length
@@ -100,8 +64,4 @@ put-word-spec =
     same-length-2
     returns-3
     same-length-3
-    returns-4
-    same-length-4
-    returns-5
-    same-length-5
-    returns-6)
+    returns-4)

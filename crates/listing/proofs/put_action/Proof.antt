@@ -1,225 +1,126 @@
--- `listing::put_action` meets its contract: each arm puts the line of its constructor. Assumes nothing.
+-- `listing::put_action` meets its contract: what the kind's number chooses makes the action's line. Assumes nothing.
+use mathlib.Core.Path.{_≡_, _∙_}
+use mathlib.Core.Logic.{⊎-elim}
+use native.Mathlib.Omega.{arith}
 use borrow.Author.Needs.{needs}
-use Rattle.listing.specs.Listing.{actionLine}
+use Rattle.listing.proofs.Actions.{numberOf, firstOf, secondOf, thirdOf, Named, nameOf, Makes, fields-named, line-made}
+use Rattle.listing.proofs.Actions.{number-enclave, number-other, first-tag, first-number, first-blank, first-past}
+use Rattle.listing.proofs.Actions.{second-tag, second-mark, second-number, second-blank, third-tag, third-blank}
 use Rattle.listing.proofs.put_action.Statement.{statement}
 use Rattle.listing.proofs.put_action.Tie as tie
 
-enum-known-action : tie.Need-enum-known-action
-enum-known-action c = search needs
+number-is : (c : tie.At-match-came) → c .match .number ≡ numberOf (c .before .fields-of .result)
+number-is c =
+    let f = c .before .fields-of .result in
+    ⊎-elim (λ w. w .2 ∙ number-enclave f (w .0 .keys1)) (λ w. w .1 ∙ number-other f (w .0 .rest .1)) (c .match .came)
 
-put-publish-requires : tie.Need-put-publish-requires
-put-publish-requires c κs = search needs
+first-is : (c : tie.At-match2-came) → c .match2 .one ≡ firstOf (c .before .before .fields-of .result) (c .before .match .number)
+first-is c =
+    let f = c .before .before .fields-of .result in
+    let n = c .before .match .number in
+    ⊎-elim (λ w. w .1 ∙ first-tag f n (w .0 .keys1))
+    (⊎-elim (λ w. w .3 ∙ first-blank f n (w .0 .rest .1) (w .1 .left) (w .2 .taken))
+    (⊎-elim (λ w. w .2 ∙ first-number f n (w .0 .rest .1) (w .1 .taken))
+    (λ w. w .3 ∙ first-past f n (w .0 .rest .1) (w .2 .left))))
+    (c .match2 .came)
 
-enum-known-action-2 : tie.Need-enum-known-action-2
-enum-known-action-2 c = search needs
+second-is : (c : tie.At-match3-came) → c .match3 .two ≡ secondOf (c .before .before .before .fields-of .result)
+second-is c =
+    let f = c .before .before .before .fields-of .result in
+    ⊎-elim (λ w. w .1 ∙ second-tag f (w .0 .keys1))
+    (⊎-elim (λ w. w .2 ∙ second-mark f (w .0 .keys2))
+    (⊎-elim (λ w. w .1 ∙ second-number f (w .0 .keys3))
+    (λ w. w .1 ∙ second-blank f (w .0 .rest .0 .0 .1) (w .0 .rest .0 .1) (w .0 .rest .1))))
+    (c .match3 .came)
 
-put-advance-requires : tie.Need-put-advance-requires
-put-advance-requires c κs = search needs
+third-is : (c : tie.Joined3) → c .if3 .three ≡ thirdOf (c .before .before .before .before .fields-of .result)
+third-is c =
+    let f = c .before .before .before .before .fields-of .result in
+    ⊎-elim (λ w. w .1 ∙ third-tag f (w .0 .taken)) (λ w. w .1 ∙ third-blank f (w .0 .left)) (c .if3 .came)
 
-enum-known-action-3 : tie.Need-enum-known-action-3
-enum-known-action-3 c = search needs
+named : (c : tie.Joined3) → Named (c .before .before .before .before .fields-of .result .kind)
+named c =
+    let f = c .before .before .before .before in
+    fields-named (f .before .before .before .args .action) (f .fields-of .result) (f .fields-of .ensures)
 
-put-grant-requires : tie.Need-put-grant-requires
-put-grant-requires c κs = search needs
+made : (c : tie.Joined3) → let two = c .before in let one = two .before in let f = one .before .before in
+    Makes (f .before .before .before .args .action) (nameOf (f .fields-of .result .kind)) (one .match2 .one) (two .match3 .two) (c .if3 .three)
+made c =
+    let two = c .before in
+    let one = two .before in
+    let f = one .before .before in
+    line-made (f .before .before .before .args .action) (f .fields-of .result) (f .fields-of .ensures)
+    (number-is (one .before)) (first-is one) (second-is two) (third-is c)
 
-enum-known-action-4 : tie.Need-enum-known-action-4
-enum-known-action-4 c = search needs
+slice-aggregate-words : tie.Need-slice-aggregate-words
+slice-aggregate-words c = search needs
 
-put-complete-requires : tie.Need-put-complete-requires
-put-complete-requires c κs = search needs
+fields-of-requires : tie.Need-fields-of-requires
+fields-of-requires c κs = search needs
 
-enum-known-action-5 : tie.Need-enum-known-action-5
-enum-known-action-5 c = search needs
+cast-number : tie.Need-cast-number
+cast-number c = search needs
 
-slice-aggregate-put-two-numbers : tie.Need-slice-aggregate-put-two-numbers
-slice-aggregate-put-two-numbers c = search needs
+cast-t23 : tie.Need-cast-t23
+cast-t23 c = search needs
 
-put-two-numbers-requires : tie.Need-put-two-numbers-requires
-put-two-numbers-requires c κs = search needs
+cast-n : tie.Need-cast-n
+cast-n c = search needs
 
-enum-known-action-6 : tie.Need-enum-known-action-6
-enum-known-action-6 c = search needs
+sub-from : tie.Need-sub-from
+sub-from c = named c .least
 
-slice-aggregate-put-numbered : tie.Need-slice-aggregate-put-numbered
-slice-aggregate-put-numbered c = search needs
+mul-from : tie.Need-mul-from
+mul-from c = search needs
 
-put-numbered-requires : tie.Need-put-numbered-requires
-put-numbered-requires c κs = search needs
+array-read-from : tie.Need-array-read-from
+array-read-from c = let h = named c .most in omega arith
 
-enum-known-action-7 : tie.Need-enum-known-action-7
-enum-known-action-7 c = search needs
+mul-end : tie.Need-mul-end
+mul-end c = search needs
 
-slice-aggregate-put-numbered-2 : tie.Need-slice-aggregate-put-numbered-2
-slice-aggregate-put-numbered-2 c = search needs
+array-read-end : tie.Need-array-read-end
+array-read-end c = named c .most
 
-put-numbered-requires-2 : tie.Need-put-numbered-requires-2
-put-numbered-requires-2 c κs = search needs
+sub-end : tie.Need-sub-end
+sub-end c = named c .next
 
-enum-known-action-8 : tie.Need-enum-known-action-8
-enum-known-action-8 c = search needs
+sub-put-line : tie.Need-sub-put-line
+sub-put-line c = named (c .before) .order
 
-slice-aggregate-put-numbered-3 : tie.Need-slice-aggregate-put-numbered-3
-slice-aggregate-put-numbered-3 c = search needs
+part-put-line-start : tie.Need-part-put-line-start
+part-put-line-start c = named (c .before) .order
 
-put-numbered-requires-3 : tie.Need-put-numbered-requires-3
-put-numbered-requires-3 c κs = search needs
+part-put-line-end : tie.Need-part-put-line-end
+part-put-line-end c = named (c .before) .within
 
-enum-known-action-9 : tie.Need-enum-known-action-9
-enum-known-action-9 c = search needs
-
-slice-aggregate-put-two-numbers-2 : tie.Need-slice-aggregate-put-two-numbers-2
-slice-aggregate-put-two-numbers-2 c = search needs
-
-put-two-numbers-requires-2 : tie.Need-put-two-numbers-requires-2
-put-two-numbers-requires-2 c κs = search needs
-
-enum-told : tie.Need-enum-told
-enum-told c = search needs
-
-slice-aggregate-put-plain : tie.Need-slice-aggregate-put-plain
-slice-aggregate-put-plain c = search needs
-
-put-plain-requires : tie.Need-put-plain-requires
-put-plain-requires c κs = search needs
-
-enum-told-2 : tie.Need-enum-told-2
-enum-told-2 c = search needs
-
-slice-aggregate-put-plain-2 : tie.Need-slice-aggregate-put-plain-2
-slice-aggregate-put-plain-2 c = search needs
-
-put-plain-requires-2 : tie.Need-put-plain-requires-2
-put-plain-requires-2 c κs = search needs
+put-line-requires : tie.Need-put-line-requires
+put-line-requires c κs = let h = made (c .before .before) .fits in (omega arith, h)
 
 same-length : tie.Need-same-length
 same-length c = search needs
 
 returns : tie.Need-returns
-unfolding actionLine
-returns c = rw (c .before .before .before .before .before .action .given .1) (c .before .before .put-publish .ensures)
-
-same-length-2 : tie.Need-same-length-2
-same-length-2 c = search needs
-
-returns-2 : tie.Need-returns-2
-unfolding actionLine
-returns-2 c = rw (c .before .before .before .before .before .action2 .given .1) (c .before .before .put-advance .ensures)
-
-same-length-3 : tie.Need-same-length-3
-same-length-3 c = search needs
-
-returns-3 : tie.Need-returns-3
-unfolding actionLine
-returns-3 c = rw (c .before .before .before .before .before .action3 .given .1) (c .before .before .put-grant .ensures)
-
-same-length-4 : tie.Need-same-length-4
-same-length-4 c = search needs
-
-returns-4 : tie.Need-returns-4
-unfolding actionLine
-returns-4 c = rw (c .before .before .before .before .before .action4 .given .1) (c .before .before .put-complete .ensures)
-
-same-length-5 : tie.Need-same-length-5
-same-length-5 c = search needs
-
-returns-5 : tie.Need-returns-5
-unfolding actionLine
-returns-5 c = rw (c .before .before .before .before .before .before .action5 .given .1) (c .before .before .put-two-numbers .ensures)
-
-same-length-6 : tie.Need-same-length-6
-same-length-6 c = search needs
-
-returns-6 : tie.Need-returns-6
-unfolding actionLine
-returns-6 c = rw (c .before .before .before .before .before .before .action6 .given .1) (c .before .before .put-numbered .ensures)
-
-same-length-7 : tie.Need-same-length-7
-same-length-7 c = search needs
-
-returns-7 : tie.Need-returns-7
-unfolding actionLine
-returns-7 c = rw (c .before .before .before .before .before .before .action7 .given .1) (c .before .before .put-numbered2 .ensures)
-
-same-length-8 : tie.Need-same-length-8
-same-length-8 c = search needs
-
-returns-8 : tie.Need-returns-8
-unfolding actionLine
-returns-8 c = rw (c .before .before .before .before .before .before .action8 .given .1) (c .before .before .put-numbered3 .ensures)
-
-same-length-9 : tie.Need-same-length-9
-same-length-9 c = search needs
-
-returns-9 : tie.Need-returns-9
-unfolding actionLine
-returns-9 c = rw (c .before .before .before .before .before .before .action9 .given .1) (c .before .before .put-two-numbers2 .ensures)
-
-same-length-10 : tie.Need-same-length-10
-same-length-10 c = search needs
-
-returns-10 : tie.Need-returns-10
-unfolding actionLine
-returns-10 c = rw (c .before .before .before .before .before .enum-told .given .1) (c .before .before .put-plain .ensures)
-
-same-length-11 : tie.Need-same-length-11
-same-length-11 c = search needs
-
-returns-11 : tie.Need-returns-11
-unfolding actionLine
-returns-11 c = rw (c .before .before .before .before .before .enum-told2 .given .1) (c .before .before .put-plain2 .ensures)
+returns c = rw (made (c .before .before .before .before .before) .same) at (c .before .before .put-line .ensures)
 
 pub put-action-spec : {M : Type 1} → statement M
 put-action-spec =
     tie.close
     (tie.spec
-    enum-known-action
-    put-publish-requires
-    enum-known-action-2
-    put-advance-requires
-    enum-known-action-3
-    put-grant-requires
-    enum-known-action-4
-    put-complete-requires
-    enum-known-action-5
-    slice-aggregate-put-two-numbers
-    put-two-numbers-requires
-    enum-known-action-6
-    slice-aggregate-put-numbered
-    put-numbered-requires
-    enum-known-action-7
-    slice-aggregate-put-numbered-2
-    put-numbered-requires-2
-    enum-known-action-8
-    slice-aggregate-put-numbered-3
-    put-numbered-requires-3
-    enum-known-action-9
-    slice-aggregate-put-two-numbers-2
-    put-two-numbers-requires-2
-    enum-told
-    slice-aggregate-put-plain
-    put-plain-requires
-    enum-told-2
-    slice-aggregate-put-plain-2
-    put-plain-requires-2
+    slice-aggregate-words
+    fields-of-requires
+    cast-number
+    cast-t23
+    cast-n
+    sub-from
+    mul-from
+    array-read-from
+    mul-end
+    array-read-end
+    sub-end
+    sub-put-line
+    part-put-line-start
+    part-put-line-end
+    put-line-requires
     same-length
-    returns
-    same-length-2
-    returns-2
-    same-length-3
-    returns-3
-    same-length-4
-    returns-4
-    same-length-5
-    returns-5
-    same-length-6
-    returns-6
-    same-length-7
-    returns-7
-    same-length-8
-    returns-8
-    same-length-9
-    returns-9
-    same-length-10
-    returns-10
-    same-length-11
-    returns-11)
+    returns)

@@ -5,20 +5,20 @@ use Rattle.listing.specs.Listing.{misplacedLine}
 use Rattle.listing.proofs.put_misplaced.Statement.{statement}
 use Rattle.listing.proofs.put_misplaced.Tie as tie
 
-slice-aggregate-put-two-numbers : tie.Need-slice-aggregate-put-two-numbers
-slice-aggregate-put-two-numbers c = search needs
+slice-aggregate-put-line : tie.Need-slice-aggregate-put-line
+slice-aggregate-put-line c = search needs
 
-put-two-numbers-requires : tie.Need-put-two-numbers-requires
-put-two-numbers-requires c κs = search needs
+put-line-requires : tie.Need-put-line-requires
+put-line-requires c κs = search needs
 
 same-length : tie.Need-same-length
 same-length c = search needs
 
 returns : tie.Need-returns
 unfolding misplacedLine decimal
-returns c = c .before .before .put-two-numbers .ensures
+returns c = c .before .before .put-line .ensures
 
 pub put-misplaced-spec : {M : Type 1} → statement M
 put-misplaced-spec =
     tie.close
-    (tie.spec slice-aggregate-put-two-numbers put-two-numbers-requires same-length returns)
+    (tie.spec slice-aggregate-put-line put-line-requires same-length returns)
