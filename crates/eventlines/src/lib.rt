@@ -10,11 +10,9 @@ ghost use Rattle.bytes.specs.Runs.{sameBytes};
 ghost use Rattle.numerals.specs.Numerals.{space};
 ghost use Rattle.numerals.specs.Told.{until};
 ghost use Rattle.events.specs.Events.{eventNumber, listed, inputOf, byFields, eventOf};
-ghost use Rattle.events.specs.Events.{withoutFields, withOneField, withTwoFields, withThreeFields};
 ghost use Rattle.events.specs.Told.{toldEvent, eventFor, enclavesOf, fieldsFrom};
 ghost use Rattle.eventlines.specs.Named.{namedOf};
 use events::Event;
-use events::ReadWord;
 use records::OptionalNumber;
 
 // What the fields of an `input` line name: whether they are good, how many enclaves, and these, with 0 after them.
@@ -55,58 +53,6 @@ fn event_number(w: &[u8]) -> u8
     numbered(w, b"active", 1, k2)
 }
 
-fn without_fields(kind: u8) -> Event
-    ensures { λ r. ⌜ r ≡ eventFor (withoutFields kind) ⌝ }
-{
-    match kind {
-        11 => Event::Stop,
-        17 => Event::Progress,
-        0..=10 | 12..=16 | 18..=255 => Event::NoEvent,
-    }
-}
-
-fn with_one_field(kind: u8, a: &[u8]) -> Event
-    ensures { λ r. ⌜ r ≡ eventFor (withOneField kind (now (a .entry))) ⌝ }
-{
-    match kind {
-        1 => events::active_event(events::word(a)),
-        5 => events::stopped_event(events::word(a)),
-        6 => events::failed_event(events::enclave_or_none(a)),
-        10 => events::idle_event(events::wide(a)),
-        12 => events::horizon_event(numerals::optional_tag(a)),
-        0 | 2..=4 | 7..=9 | 11 | 13..=255 => Event::NoEvent,
-    }
-}
-
-fn with_two_fields(kind: u8, a: &[u8], b: &[u8]) -> Event
-    ensures { λ r. ⌜ r ≡ eventFor (withTwoFields kind (now (a .entry)) (now (b .entry))) ⌝ }
-{
-    match kind {
-        2 => events::publish_event(events::word(a), numerals::optional_tag(b)),
-        4 => events::observed_event(events::word(a), events::wide(b)),
-        7 => events::acquire_event(events::wide(a), numerals::tag(b)),
-        13 => events::begin_event(events::word(a), numerals::tag(b)),
-        14 => events::late_event(events::word(a), numerals::tag(b)),
-        15 => events::done_event(events::word(a), numerals::tag(b)),
-        0..=1 | 3 | 5..=6 | 8..=12 | 16..=255 => Event::NoEvent,
-    }
-}
-
-fn with_three_fields(kind: u8, a: &[u8], b: &[u8], c: &[u8]) -> Event
-    ensures { λ r. ⌜ r ≡ eventFor (withThreeFields kind (now (a .entry)) (now (b .entry)) (now (c .entry))) ⌝ }
-{
-    match kind {
-        3 => events::complete_event(events::word(a), numerals::tag(b), events::mark(c)),
-        8 => events::sent_event(
-            events::wide(a),
-            numerals::optional_tag(b),
-            numerals::optional_tag(c),
-        ),
-        9 => events::observe_event(events::word(a), events::wide(b), events::observation(c)),
-        0..=2 | 4..=7 | 10..=255 => Event::NoEvent,
-    }
-}
-
 // Where the field after the space at this place ends.
 fn field_end(line: &[u8], at: usize) -> usize
     requires { ⌜ at < length (now line) ⌝ }
@@ -119,20 +65,20 @@ fn after_two(kind: u8, a: &[u8], b: &[u8], line: &[u8], at: usize) -> Event
     ensures { λ r. ⌜ r ≡ eventFor (byFields kind (now (a .entry) ∷ now (b .entry) ∷ fieldsFrom at (now (line .entry)))) ⌝ }
 {
     if line.len() <= at {
-        return with_two_fields(kind, a, b);
+        return events::with_two_fields(kind, a, b);
     }
     let end = field_end(line, at);
     if end < line.len() {
         return Event::NoEvent;
     }
-    with_three_fields(kind, a, b, &line[at + 1..end])
+    events::with_three_fields(kind, a, b, &line[at + 1..end])
 }
 
 fn after_one(kind: u8, a: &[u8], line: &[u8], at: usize) -> Event
     ensures { λ r. ⌜ r ≡ eventFor (byFields kind (now (a .entry) ∷ fieldsFrom at (now (line .entry)))) ⌝ }
 {
     if line.len() <= at {
-        return with_one_field(kind, a);
+        return events::with_one_field(kind, a);
     }
     let end = field_end(line, at);
     after_two(kind, a, &line[at + 1..end], line, end)
@@ -142,7 +88,11 @@ fn with_fields(kind: u8, line: &[u8], at: usize) -> Event
     ensures { λ r. ⌜ r ≡ eventFor (byFields kind (fieldsFrom at (now (line .entry)))) ⌝ }
 {
     if line.len() <= at {
-        return without_fields(kind);
+        return match kind {
+            11 => Event::Stop,
+            17 => Event::Progress,
+            _ => Event::NoEvent,
+        };
     }
     let end = field_end(line, at);
     after_one(kind, &line[at + 1..end], line, end)
@@ -170,11 +120,11 @@ fn listed_enclaves(line: &[u8], from: usize, n: usize) -> Named
             return unnamed();
         }
         let end = field_end(line, at);
-        let w = events::word(&line[at + 1..end]);
-        let ReadWord::Word(e) = w else {
+        let w = numerals::number(&line[at + 1..end], 4294967295);
+        let OptionalNumber::Number(e) = w else {
             return unnamed();
         };
-        enclaves[count] = e;
+        enclaves[count] = e as u32;
         count += 1;
         at = end;
     }

@@ -6,14 +6,10 @@ use mathlib.Core.Option.{Option, none, some}
 use lib.Dec.{ltb}
 use lib.ListN.{length, take, drop}
 use Rattle.numerals.specs.Numerals.{split, space}
-use Rattle.rules.specs.Model.{OptionalEnclave, Observation}
+use Rattle.rules.specs.Model.{Observation}
 use Rattle.rules.specs.Model.{Call, active, stopped, publish, complete, observed, failed, acquire, sent, observe, idle, stop, progress, horizon, begin, late, done, input}
 use Rattle.events.specs.declared.Event.{Event}
 use Rattle.events.specs.declared.Event.the-variants as event
-use Rattle.events.specs.declared.ReadWord.{ReadWord}
-use Rattle.events.specs.declared.ReadWord.the-variants.{NotWord, Word}
-use Rattle.events.specs.declared.ReadEnclave.{ReadEnclave}
-use Rattle.events.specs.declared.ReadEnclave.the-variants.{NotEnclave, Failing}
 use Rattle.events.specs.declared.ReadMark.{ReadMark}
 use Rattle.events.specs.declared.ReadMark.the-variants.{NotMark, Mark}
 use Rattle.events.specs.declared.ReadObservation.{ReadObservation}
@@ -101,14 +97,6 @@ unfoldable pub enclavesOf : List ℕ → List ℕ
 enclavesOf line = padded 32 (namedIn (eventOf line))
 
 -- ---- inside: the fields read, and the places between them
-
-abbrev pub toldWord : ReadWord → Option ℕ
-toldWord NotWord = none
-toldWord (Word n) = some n
-
-abbrev pub toldEnclave : ReadEnclave → Option OptionalEnclave
-toldEnclave NotEnclave = none
-toldEnclave (Failing e) = some e
 
 abbrev pub toldMark : ReadMark → Option Bool
 toldMark NotMark = none

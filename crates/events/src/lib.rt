@@ -1,11 +1,8 @@
 // Events (document 01, "Script and its listing"): the call that an event tells, and an event made of the fields of its line.
 // New here: the Rust reads no script. A field that is not of its form makes no event; nothing else is refused.
 ghost use mathlib.Core.Path.{_≡_};
-ghost use Rattle.numerals.specs.Numerals.{given};
-ghost use Rattle.numerals.specs.Told.{toldNumber, toldTag, toldOptionalTag};
-ghost use Rattle.rules.specs.Model.{active, stopped, publish, complete, observed, failed, acquire, sent, observe, idle, horizon, begin, late, done};
-ghost use Rattle.events.specs.Events.{wordOf, wideOf, enclaveOf, markOf, observationOf, both, three};
-ghost use Rattle.events.specs.Told.{eventFor, toldWord, toldEnclave, toldMark, toldObservation};
+ghost use Rattle.events.specs.Events.{markOf, observationOf, withOneField, withTwoFields, withThreeFields};
+ghost use Rattle.events.specs.Told.{eventFor, toldMark, toldObservation};
 use numerals::ReadTag;
 use records::Observation;
 use records::OptionalEnclave;
@@ -35,18 +32,6 @@ pub enum Event {
     Progress,
 }
 
-// An E, or a count, that was read.
-pub enum ReadWord {
-    NotWord,
-    Word(u32),
-}
-
-// What stands for `E|-`.
-pub enum ReadEnclave {
-    NotEnclave,
-    Failing(OptionalEnclave),
-}
-
 // What stands for `0|1`.
 pub enum ReadMark {
     NotMark,
@@ -57,38 +42,6 @@ pub enum ReadMark {
 pub enum ReadObservation {
     NotObservation,
     Observing(Observation),
-}
-
-// An E, or a count.
-pub fn word(t: &[u8]) -> ReadWord
-    ensures { λ r. ⌜ toldWord r ≡ wordOf (now (t .entry)) ⌝ }
-{
-    let n = numerals::number(t, 4294967295);
-    match n {
-        OptionalNumber::NoNumber => ReadWord::NotWord,
-        OptionalNumber::Number(e) => ReadWord::Word(e as u32),
-    }
-}
-
-// An R, or a G.
-pub fn wide(t: &[u8]) -> OptionalNumber
-    ensures { λ r. ⌜ toldNumber r ≡ wideOf (now (t .entry)) ⌝ }
-{
-    numerals::number(t, 18446744073709551615)
-}
-
-// `E|-`.
-pub fn enclave_or_none(t: &[u8]) -> ReadEnclave
-    ensures { λ r. ⌜ toldEnclave r ≡ enclaveOf (now (t .entry)) ⌝ }
-{
-    if bytes::same_bytes(t, b"-") {
-        return ReadEnclave::Failing(OptionalEnclave::NoEnclave);
-    }
-    let w = word(t);
-    match w {
-        ReadWord::NotWord => ReadEnclave::NotEnclave,
-        ReadWord::Word(e) => ReadEnclave::Failing(OptionalEnclave::Enclave(e)),
-    }
 }
 
 // `0|1`.
@@ -120,178 +73,101 @@ pub fn observation(t: &[u8]) -> ReadObservation
     ReadObservation::NotObservation
 }
 
-// `active E`.
-pub fn active_event(a: ReadWord) -> Event
-    ensures { λ r. ⌜ r ≡ eventFor (given (toldWord a) active) ⌝ }
+// `active E`, `stopped E`, `failed E|-`, `idle R`, `horizon T|-`.
+pub fn with_one_field(kind: u8, a: &[u8]) -> Event
+    ensures { λ r. ⌜ r ≡ eventFor (withOneField kind (now (a .entry))) ⌝ }
 {
-    let ReadWord::Word(enclave) = a else {
+    if kind == 12 {
+        let ReadTag::Read(tag) = numerals::optional_tag(a) else {
+            return Event::NoEvent;
+        };
+        return Event::Horizon(tag);
+    }
+    let absent = bytes::same_bytes(a, b"-");
+    if kind == 6 && absent {
+        return Event::Failed(OptionalEnclave::NoEnclave);
+    }
+    let most = if kind == 10 { u64::MAX } else { 4294967295 };
+    let OptionalNumber::Number(n) = numerals::number(a, most) else {
         return Event::NoEvent;
     };
-    Event::Active(enclave)
+    match kind {
+        1 => Event::Active(n as u32),
+        5 => Event::Stopped(n as u32),
+        6 => Event::Failed(OptionalEnclave::Enclave(n as u32)),
+        10 => Event::Idle(n),
+        _ => Event::NoEvent,
+    }
 }
 
-// `stopped E`.
-pub fn stopped_event(a: ReadWord) -> Event
-    ensures { λ r. ⌜ r ≡ eventFor (given (toldWord a) stopped) ⌝ }
+// `publish E T|-`, `observed E G`, `acquire R T`, `begin E T`, `late E T`, `done E T`.
+pub fn with_two_fields(kind: u8, a: &[u8], b: &[u8]) -> Event
+    ensures { λ r. ⌜ r ≡ eventFor (withTwoFields kind (now (a .entry)) (now (b .entry))) ⌝ }
 {
-    let ReadWord::Word(enclave) = a else {
+    let most = if kind == 7 { u64::MAX } else { 4294967295 };
+    let OptionalNumber::Number(n) = numerals::number(a, most) else {
         return Event::NoEvent;
     };
-    Event::Stopped(enclave)
+    if kind == 2 {
+        let ReadTag::Read(next_event) = numerals::optional_tag(b) else {
+            return Event::NoEvent;
+        };
+        return Event::Publish(n as u32, next_event);
+    }
+    if kind == 4 {
+        let OptionalNumber::Number(generation) = numerals::number(b, u64::MAX) else {
+            return Event::NoEvent;
+        };
+        return Event::Observed(n as u32, generation);
+    }
+    let OptionalTag::At(tag) = numerals::tag(b) else {
+        return Event::NoEvent;
+    };
+    match kind {
+        7 => Event::Acquire(n, tag),
+        13 => Event::Begin(n as u32, tag),
+        14 => Event::Late(n as u32, tag),
+        15 => Event::Done(n as u32, tag),
+        _ => Event::NoEvent,
+    }
 }
 
-// `failed E|-`.
-pub fn failed_event(a: ReadEnclave) -> Event
-    ensures { λ r. ⌜ r ≡ eventFor (given (toldEnclave a) failed) ⌝ }
+// `complete E T 0|1`, `sent R T|- T|-`, `observe E R probed|parked|rechecked`.
+pub fn with_three_fields(kind: u8, a: &[u8], b: &[u8], c: &[u8]) -> Event
+    ensures { λ r. ⌜ r ≡ eventFor (withThreeFields kind (now (a .entry)) (now (b .entry)) (now (c .entry))) ⌝ }
 {
-    let ReadEnclave::Failing(enclave) = a else {
+    let most = if kind == 8 { u64::MAX } else { 4294967295 };
+    let OptionalNumber::Number(n) = numerals::number(a, most) else {
         return Event::NoEvent;
     };
-    Event::Failed(enclave)
-}
-
-// `idle R`.
-pub fn idle_event(a: OptionalNumber) -> Event
-    ensures { λ r. ⌜ r ≡ eventFor (given (toldNumber a) idle) ⌝ }
-{
-    let OptionalNumber::Number(revision) = a else {
-        return Event::NoEvent;
-    };
-    Event::Idle(revision)
-}
-
-// `horizon T|-`.
-pub fn horizon_event(a: ReadTag) -> Event
-    ensures { λ r. ⌜ r ≡ eventFor (given (toldOptionalTag a) horizon) ⌝ }
-{
-    let ReadTag::Read(tag) = a else {
-        return Event::NoEvent;
-    };
-    Event::Horizon(tag)
-}
-
-// `publish E T|-`.
-pub fn publish_event(a: ReadWord, b: ReadTag) -> Event
-    ensures { λ r. ⌜ r ≡ eventFor (both (toldWord a) (toldOptionalTag b) publish) ⌝ }
-{
-    let ReadWord::Word(enclave) = a else {
-        return Event::NoEvent;
-    };
-    let ReadTag::Read(next_event) = b else {
-        return Event::NoEvent;
-    };
-    Event::Publish(enclave, next_event)
-}
-
-// `observed E G`.
-pub fn observed_event(a: ReadWord, b: OptionalNumber) -> Event
-    ensures { λ r. ⌜ r ≡ eventFor (both (toldWord a) (toldNumber b) observed) ⌝ }
-{
-    let ReadWord::Word(enclave) = a else {
-        return Event::NoEvent;
-    };
-    let OptionalNumber::Number(generation) = b else {
-        return Event::NoEvent;
-    };
-    Event::Observed(enclave, generation)
-}
-
-// `acquire R T`.
-pub fn acquire_event(a: OptionalNumber, b: OptionalTag) -> Event
-    ensures { λ r. ⌜ r ≡ eventFor (both (toldNumber a) (toldTag b) acquire) ⌝ }
-{
-    let OptionalNumber::Number(revision) = a else {
-        return Event::NoEvent;
-    };
-    let OptionalTag::At(tag) = b else {
-        return Event::NoEvent;
-    };
-    Event::Acquire(revision, tag)
-}
-
-// `begin E T`.
-pub fn begin_event(a: ReadWord, b: OptionalTag) -> Event
-    ensures { λ r. ⌜ r ≡ eventFor (both (toldWord a) (toldTag b) begin) ⌝ }
-{
-    let ReadWord::Word(enclave) = a else {
-        return Event::NoEvent;
-    };
-    let OptionalTag::At(tag) = b else {
-        return Event::NoEvent;
-    };
-    Event::Begin(enclave, tag)
-}
-
-// `late E T`.
-pub fn late_event(a: ReadWord, b: OptionalTag) -> Event
-    ensures { λ r. ⌜ r ≡ eventFor (both (toldWord a) (toldTag b) late) ⌝ }
-{
-    let ReadWord::Word(enclave) = a else {
-        return Event::NoEvent;
-    };
-    let OptionalTag::At(tag) = b else {
-        return Event::NoEvent;
-    };
-    Event::Late(enclave, tag)
-}
-
-// `done E T`.
-pub fn done_event(a: ReadWord, b: OptionalTag) -> Event
-    ensures { λ r. ⌜ r ≡ eventFor (both (toldWord a) (toldTag b) done) ⌝ }
-{
-    let ReadWord::Word(enclave) = a else {
-        return Event::NoEvent;
-    };
-    let OptionalTag::At(tag) = b else {
-        return Event::NoEvent;
-    };
-    Event::Done(enclave, tag)
-}
-
-// `complete E T 0|1`.
-pub fn complete_event(a: ReadWord, b: OptionalTag, c: ReadMark) -> Event
-    ensures { λ r. ⌜ r ≡ eventFor (three (toldWord a) (toldTag b) (toldMark c) complete) ⌝ }
-{
-    let ReadWord::Word(enclave) = a else {
-        return Event::NoEvent;
-    };
-    let OptionalTag::At(tag) = b else {
-        return Event::NoEvent;
-    };
-    let ReadMark::Mark(network_input) = c else {
-        return Event::NoEvent;
-    };
-    Event::Complete(enclave, tag, network_input)
-}
-
-// `sent R T|- T|-`.
-pub fn sent_event(a: OptionalNumber, b: ReadTag, c: ReadTag) -> Event
-    ensures { λ r. ⌜ r ≡ eventFor (three (toldNumber a) (toldOptionalTag b) (toldOptionalTag c) sent) ⌝ }
-{
-    let OptionalNumber::Number(revision) = a else {
-        return Event::NoEvent;
-    };
-    let ReadTag::Read(next_event) = b else {
-        return Event::NoEvent;
-    };
-    let ReadTag::Read(horizon) = c else {
-        return Event::NoEvent;
-    };
-    Event::Sent(revision, next_event, horizon)
-}
-
-// `observe E R probed|parked|rechecked`.
-pub fn observe_event(a: ReadWord, b: OptionalNumber, c: ReadObservation) -> Event
-    ensures { λ r. ⌜ r ≡ eventFor (three (toldWord a) (toldNumber b) (toldObservation c) observe) ⌝ }
-{
-    let ReadWord::Word(enclave) = a else {
-        return Event::NoEvent;
-    };
-    let OptionalNumber::Number(revision) = b else {
-        return Event::NoEvent;
-    };
-    let ReadObservation::Observing(observation) = c else {
-        return Event::NoEvent;
-    };
-    Event::Observe(enclave, revision, observation)
+    match kind {
+        3 => {
+            let OptionalTag::At(tag) = numerals::tag(b) else {
+                return Event::NoEvent;
+            };
+            let ReadMark::Mark(network_input) = mark(c) else {
+                return Event::NoEvent;
+            };
+            Event::Complete(n as u32, tag, network_input)
+        }
+        8 => {
+            let ReadTag::Read(next_event) = numerals::optional_tag(b) else {
+                return Event::NoEvent;
+            };
+            let ReadTag::Read(horizon) = numerals::optional_tag(c) else {
+                return Event::NoEvent;
+            };
+            Event::Sent(n, next_event, horizon)
+        }
+        9 => {
+            let OptionalNumber::Number(revision) = numerals::number(b, u64::MAX) else {
+                return Event::NoEvent;
+            };
+            let ReadObservation::Observing(seen) = observation(c) else {
+                return Event::NoEvent;
+            };
+            Event::Observe(n as u32, revision, seen)
+        }
+        _ => Event::NoEvent,
+    }
 }

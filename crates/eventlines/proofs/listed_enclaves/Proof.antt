@@ -8,8 +8,10 @@ use native.Mathlib.Omega.{arith}
 use lib.ListN.{length, take, getD, set, length-set}
 use lib.Seq.{take-suc-set, getD-set-other}
 use borrow.Author.Needs.{needs}
+use Rattle.numerals.specs.Told.{toldNumber}
+use Rattle.numerals.proofs.Numbers.{number-le}
 use Rattle.events.specs.Events.{listed}
-use Rattle.events.specs.Told.{fieldsFrom, toldWord}
+use Rattle.events.specs.Told.{fieldsFrom}
 use Rattle.eventlines.specs.Named.{namedOf}
 use Rattle.eventlines.proofs.Listed.{listedFrom, listed-start, turn-over, turn-bad, turn-more, turn-short, turn-all, padded-zero, named-is}
 use Rattle.eventlines.proofs.listed_enclaves.Statement.{statement}
@@ -42,20 +44,20 @@ returns c =
 field-end-requires : tie.Need-field-end-requires Inv-loop μ-loop
 field-end-requires c κs = search needs
 
-add-word : tie.Need-add-word Inv-loop μ-loop
-add-word c = search needs
+add-number : tie.Need-add-number Inv-loop μ-loop
+add-number c = search needs
 
-sub-word : tie.Need-sub-word Inv-loop μ-loop
-sub-word c = search needs
+sub-number : tie.Need-sub-number Inv-loop μ-loop
+sub-number c = search needs
 
-part-word-start : tie.Need-part-word-start Inv-loop μ-loop
-part-word-start c = search needs
+part-number-start : tie.Need-part-number-start Inv-loop μ-loop
+part-number-start c = search needs
 
-part-word-end : tie.Need-part-word-end Inv-loop μ-loop
-part-word-end c = search needs
+part-number-end : tie.Need-part-number-end Inv-loop μ-loop
+part-number-end c = search needs
 
-word-requires : tie.Need-word-requires Inv-loop μ-loop
-word-requires c κs = tt
+number-requires : tie.Need-number-requires Inv-loop μ-loop
+number-requires c κs = tt
 
 enum-known-w : tie.Need-enum-known-w Inv-loop μ-loop
 enum-known-w c = search needs
@@ -68,15 +70,20 @@ unnamed-requires-2 c κs = tt
 
 returns-2 : tie.Need-returns-2 Inv-loop μ-loop
 returns-2 c =
-    let w = c .before .before .before .word in
+    let w = c .before .before .before .number in
     let f = c .before .before .before .before .before .field-end in
     let l = c .before .before .before .before .before .before .before .before .loop in
     let a = c .before .before .before .before .before .before .before .before .before .before .args in
     c .unnamed2 .ensures
     ∙ ap namedOf
     (turn-bad (take (l .count) (l .enclaves)) (l .count) (a .n) (a .line .now) (l .at) (f .result) (omega arith) (f .ensures .0)
-    (sym (w .ensures) ∙ ap toldWord (c .before .enum-told .given .1))
+    (sym (w .ensures) ∙ ap toldNumber (c .before .enum-told .given .1))
     ∙ l .inv .2)
+
+cast-enclaves : tie.Need-cast-enclaves Inv-loop μ-loop
+cast-enclaves c =
+    let e = c .before .w .given in
+    omega (arith, number-le _ _ (e .0 .0) (sym (c .before .before .before .number .ensures) ∙ ap toldNumber (e .1)))
 
 mul-enclaves : tie.Need-mul-enclaves Inv-loop μ-loop
 mul-enclaves c = search needs
@@ -93,7 +100,7 @@ loop-less c = search needs
 loop-again : tie.Need-loop-again Inv-loop μ-loop
 loop-again c =
     let e = c .before .w .given in
-    let w = c .before .before .before .word in
+    let w = c .before .before .before .number in
     let f = c .before .before .before .before .before .field-end in
     let l = c .before .before .before .before .before .before .before .before .loop in
     let a = c .before .before .before .before .before .before .before .before .before .before .args in
@@ -104,7 +111,7 @@ loop-again c =
       omega arith,
       rw t
           (turn-more (take (l .count) (l .enclaves)) (l .count) (a .n) (a .line .now) (l .at) (f .result) (omega arith) (f .ensures .0) (e .0 .0)
-          (sym (w .ensures) ∙ ap toldWord (e .1))
+          (sym (w .ensures) ∙ ap toldNumber (e .1))
           ∙ l .inv .2),
       λ k h. getD-set-other (l .enclaves) (l .count) k (e .0 .0) 0 (λ q. omega arith) ∙ l .inv .3 k (omega arith),
     )
@@ -136,15 +143,16 @@ listed-enclaves-spec =
     unnamed-requires
     returns
     field-end-requires
-    add-word
-    sub-word
-    part-word-start
-    part-word-end
-    word-requires
+    add-number
+    sub-number
+    part-number-start
+    part-number-end
+    number-requires
     enum-known-w
     enum-told
     unnamed-requires-2
     returns-2
+    cast-enclaves
     mul-enclaves
     array-write-enclaves
     add-count
