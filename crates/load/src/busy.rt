@@ -2,8 +2,6 @@
 // every enclave completes it with network input, but the last of several answers the completion probe with the current generation. 2 N + 1 calls a turn.
 ghost use Prim.Native.Nat.{_≤_};
 use crate::given::Load;
-use crate::steps;
-use crate::steps::Step;
 use crate::totals;
 use crate::totals::Totals;
 use records::FederateAcquisition;
@@ -11,12 +9,6 @@ use records::SchedulerMessage;
 use state::FederateCoordinationState;
 use tags::OptionalTag;
 use tags::Tag;
-
-const PUBLISHES: u8 = 0;
-
-const ACQUIRES: u8 = 1;
-
-const COMPLETES: u8 = 2;
 
 fn tag_of(load: Load, seconds: u64) -> Tag
     requires { ⌜ seconds ≤ 100001 ⌝ }
@@ -28,36 +20,34 @@ fn tag_of(load: Load, seconds: u64) -> Tag
     }
 }
 
-fn is_last(load: Load, step: Step) -> bool
-    requires { ⌜ step .place ≤ 31 ⌝ }
+// Whether this is the last of several enclaves.
+fn is_last(load: Load, place: usize) -> bool
+    requires { ⌜ place ≤ 31 ⌝ }
 {
     if 1 < load.count {
-        return step.place + 1 == load.count;
+        return place + 1 == load.count;
     }
     false
 }
 
-fn published(load: Load, step: Step) -> Tag
-    requires { ⌜ (step .turn ≤ 100000) × (step .place ≤ 31) ⌝ }
+fn publish(load: Load, turn: u64, place: usize, enclave: u32) -> SchedulerMessage
+    requires { ⌜ (turn ≤ 100000) × (place ≤ 31) ⌝ }
 {
-    if is_last(load, step) {
-        return tag_of(load, step.turn + 1);
+    let tag = if is_last(load, place) {
+        tag_of(load, turn + 1)
+    } else {
+        tag_of(load, turn)
+    };
+    SchedulerMessage::Publish {
+        enclave,
+        next_event: OptionalTag::At(tag),
     }
-    tag_of(load, step.turn)
 }
 
-fn message(load: Load, step: Step, generation: u64) -> SchedulerMessage
-    requires { ⌜ (step .turn ≤ 100000) × (step .place ≤ 31) ⌝ }
+fn complete(load: Load, turn: u64, place: usize, enclave: u32, generation: u64) -> SchedulerMessage
+    requires { ⌜ (turn ≤ 100000) × (place ≤ 31) ⌝ }
 {
-    let enclave = step.enclave;
-    if step.stage == PUBLISHES {
-        let next_event = OptionalTag::At(published(load, step));
-        return SchedulerMessage::Publish {
-            enclave,
-            next_event,
-        };
-    }
-    if is_last(load, step) {
+    if is_last(load, place) {
         return SchedulerMessage::CompletionObserved {
             enclave,
             generation,
@@ -65,12 +55,12 @@ fn message(load: Load, step: Step, generation: u64) -> SchedulerMessage
     }
     SchedulerMessage::CompleteTag {
         enclave,
-        tag: tag_of(load, step.turn),
+        tag: tag_of(load, turn),
         network_input: true,
     }
 }
 
-// The calls are made here, on the state itself: handing it to another function would be measured too.
+// The calls are made here, on the state itself, in loops as in bench/driver.rs: handing it to another function would be measured too.
 pub fn play(opened: FederateCoordinationState, load: Load) -> Totals
     requires { ⌜ (load .count ≤ 32) × (load .stride ≤ 4095) × (load .turns ≤ 100000) ⌝ }
 {
@@ -78,27 +68,40 @@ pub fn play(opened: FederateCoordinationState, load: Load) -> Totals
     let room: &mut [u8] = &mut space;
     let mut state = opened;
     let mut totals = totals::nothing();
-    let mut step = steps::first();
-    while step.turn <= load.turns {
-        if step.stage == ACQUIRES {
-            let coordination = state.coordination;
-            let acquisition = FederateAcquisition {
-                revision: coordination.revision,
-                granted: tag_of(load, step.turn),
-            };
-            let called = acquisition::handle_acquisition(state, acquisition, room);
+    let mut turn: u64 = 1;
+    while turn <= load.turns {
+        let mut place: usize = 0;
+        let mut enclave: u32 = 0;
+        while place < load.count {
+            let called = federate::handle_scheduler(state, publish(load, turn, place, enclave), room);
             let reply = called.reply;
             state = called.state;
             totals = totals::added(totals, reply);
-        } else {
+            place += 1;
+            enclave += load.stride;
+        }
+        let coordination = state.coordination;
+        let acquisition = FederateAcquisition {
+            revision: coordination.revision,
+            granted: tag_of(load, turn),
+        };
+        let called = acquisition::handle_acquisition(state, acquisition, room);
+        let reply = called.reply;
+        state = called.state;
+        totals = totals::added(totals, reply);
+        place = 0;
+        enclave = 0;
+        while place < load.count {
             let completion = state.completion;
-            let said = message(load, step, completion.completion_generation);
+            let said = complete(load, turn, place, enclave, completion.completion_generation);
             let called = federate::handle_scheduler(state, said, room);
             let reply = called.reply;
             state = called.state;
             totals = totals::added(totals, reply);
+            place += 1;
+            enclave += load.stride;
         }
-        step = steps::next(load, step, step.stage == ACQUIRES, COMPLETES);
+        turn += 1;
     }
     totals
 }
