@@ -1,11 +1,10 @@
 -- The turns of a run: what the run of the events left gives from here is what the whole run gives. An event's lines fit in 5,600 bytes, so those of the
 -- events left fit in the room left. Assumes nothing.
 use mathlib.Core.Path.{_≡_, refl, sym, ap, _∙_}
-use mathlib.Core.Bool.{Bool, true, false, cond}
+use mathlib.Core.Bool.{true, false}
 use mathlib.Core.List.{List, [], _∷_, _++_}
-use Prim.Native.Nat.{ℕ, zero, suc, _+_, _-_, _*_, _/_, _≤_, _<_}
+use Prim.Native.Nat.{ℕ, suc, _+_, _-_, _*_, _≤_, _<_}
 use native.Mathlib.Omega.{arith}
-use lib.Dec.{eqb}
 use lib.ListN.{length, length-append}
 use Rattle.bytes.specs.Runs.{putAt}
 use Rattle.bytes.proofs.Runs.{put-append, put-nil, length-put}

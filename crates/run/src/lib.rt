@@ -1,9 +1,7 @@
 // A script run with an event budget (document 01, "Script and its listing"): each event is read again from its line, taken by its call and listed into lent
 // room. A run takes the lesser of its budget and of the events left, and no more than the room surely holds; refused events count.
-ghost use mathlib.Core.Path.{_≡_};
 ghost use Prim.Native.Nat.{_+_, _≤_};
 ghost use lib.ListN.{length};
-ghost use mathlib.Core.Bool.{false};
 ghost use Rattle.events.specs.Events.{eventOf};
 ghost use Rattle.events.specs.Told.{toldEvent};
 ghost use Rattle.script.specs.Lines.{item};
@@ -66,17 +64,6 @@ fn list_event(
     }
 }
 
-fn stays(state: FederateCoordinationState, at: usize, written: usize) -> Stepped
-    ensures { λ r. ⌜ r ≡ record { moved = false; state = state; at = at; written = written } ⌝ }
-{
-    Stepped {
-        moved: false,
-        state,
-        at,
-        written,
-    }
-}
-
 // The event at the place, taken and listed.
 fn step(
     script: &[u8],
@@ -89,45 +76,25 @@ fn step(
     requires { ⌜ written + 5600 ≤ length (now out) ⌝ }
     ensures { λ r. ⌜ StepsBy (item eventOf (now (script .entry)) at) state at number written (now (out .entry)) (now (out .exit)) r ⌝ }
 {
-    if !reader::is_ended(script, at) {
-        return stays(state, at, written);
+    if reader::is_ended(script, at) {
+        let line = reader::line_from(script, at);
+        if script::is_event(line) {
+            let event = eventlines::read_event(line);
+            let enclaves = eventlines::enclaves(line);
+            let listed = list_event(state, event, &enclaves, number, out, written);
+            let next = listed.state;
+            return Stepped {
+                moved: true,
+                state: next,
+                at: reader::place_after(script, at),
+                written: listed.written,
+            };
+        }
     }
-    let line = reader::line_from(script, at);
-    let after = reader::place_after(script, at);
-    if !script::is_event(line) {
-        return stays(state, at, written);
-    }
-    let event = eventlines::read_event(line);
-    let enclaves = eventlines::enclaves(line);
-    let listed = list_event(state, event, &enclaves, number, out, written);
-    let next = listed.state;
     Stepped {
-        moved: true,
-        state: next,
-        at: after,
-        written: listed.written,
-    }
-}
-
-fn came_to(
-    state: FederateCoordinationState,
-    at: usize,
-    events: usize,
-    left: usize,
-    taken: usize,
-    written: usize,
-) -> Ran
-    ensures { λ r. ⌜ r ≡ record { rest = record { state = state; at = at; events = events; left = left }; taken = taken; written = written } ⌝ }
-{
-    let rest = Running {
+        moved: false,
         state,
         at,
-        events,
-        left,
-    };
-    Ran {
-        rest,
-        taken,
         written,
     }
 }
@@ -147,12 +114,22 @@ pub fn run(script: &[u8], from: Running, budget: usize, out: &mut [u8]) -> Ran
     while taken < allowed {
         let stepped = step(script, state, at, (before + taken + 1) as u64, out, written);
         if !stepped.moved {
-            return came_to(state, at, events, left - taken, taken, written);
+            break;
         }
         state = stepped.state;
         at = stepped.at;
         written = stepped.written;
         taken += 1;
     }
-    came_to(state, at, events, left - taken, taken, written)
+    let rest = Running {
+        state,
+        at,
+        events,
+        left: left - taken,
+    };
+    Ran {
+        rest,
+        taken,
+        written,
+    }
 }

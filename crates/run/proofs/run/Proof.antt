@@ -1,9 +1,13 @@
 -- `run::run` takes events one at a time; what is left of the run from here is what the whole run gives. Assumes nothing.
-use mathlib.Core.Path.{refl}
+use mathlib.Core.Path.{_≡_, refl, ap, _∙_}
+use mathlib.Core.List.{[]}
+use mathlib.Core.Logic.{⊎-elim}
 use Prim.Native.Nat.{_+_, _-_, _^_, _<_}
 use native.Mathlib.Omega.{arith}
+use lib.ListN.{length}
 use borrow.Author.Needs.{needs}
 use borrow.Author.Tests.{not-true, not-false}
+use Rattle.budget.specs.Run.{callsFrom, placeFrom}
 use Rattle.budget.proofs.Counts.{allowed-left, allowed-fits}
 use Rattle.run.proofs.Turns.{Left, begins, turns-on, turns-not, all-taken, all-here, ended}
 use Rattle.run.proofs.run.Statement.{statement}
@@ -43,36 +47,6 @@ add-step-2 c = record { fits = let h = small c in omega arith }
 step-requires : tie.Need-step-requires Inv-loop μ-loop
 step-requires c κs = search needs
 
-sub-came-to : tie.Need-sub-came-to Inv-loop μ-loop
-sub-came-to c =
-    let test = c .before .before .before .before .before .before in
-    let allowed = test .before .before .before .before in
-    let h = allowed-left _ _ _ _ (allowed .allowance .ensures) in
-    let t = test .loop-test .taken in
-    omega arith
-
-came-to-requires : tie.Need-came-to-requires Inv-loop μ-loop
-came-to-requires c κs = search needs
-
-same-length : tie.Need-same-length Inv-loop μ-loop
-same-length c = search needs
-
-returns : tie.Need-returns Inv-loop μ-loop
-returns c =
-    let stepped = c .before .before .before .before .before in
-    let test = stepped .before .before in
-    let loop = test .before in
-    let counted = loop .before .before in
-    let allowed = counted .before in
-    let a = allowed .before .before .before .args in
-    let l = loop .loop in
-    let t =
-    turns-not _ _ _ (l .state) (l .at) (l .out) _ _ _ _ _ _ (test .loop-test .taken) (stepped .step .result) _ refl (stepped .step .ensures)
-    (not-true _ (c .before .if1 .taken)) in
-    rw (t .2)
-    (ended (a .script .now) (a .from) (a .budget) (a .out .now) (l .out) (l .state) (l .at) (l .taken) (l .written) (allowed .allowance .result)
-    (counted .difference .result) (allowed .allowance .ensures) (counted .difference .ensures) (l .inv) (t .0) (t .1) _ (c .came-to .ensures))
-
 add-taken : tie.Need-add-taken Inv-loop μ-loop
 add-taken c = search needs
 
@@ -86,31 +60,44 @@ loop-again c =
     turns-on _ _ _ _ _ _ _ _ _ _ _ _ (test .loop-test .taken) (stepped .step .result) (test .before .loop .inv) _ refl (stepped .step .ensures)
     (not-false _ (c .before .if1 .left))
 
-sub-came-to-2 : tie.Need-sub-came-to-2 Inv-loop μ-loop
-sub-came-to-2 c =
-    let allowed = c .before .before .before .before in
-    let h = allowed-left _ _ _ _ (allowed .allowance .ensures) in
+-- nothing is left, or no event stands here
+abbrev NoMore : tie.Left-loop Inv-loop μ-loop → Type 0
+NoMore c =
+    let l = c .before .loop in
+    let n = c .before .before .before .before .allowance .result in
+    let script = c .before .before .before .before .before .before .before .args .script .now in
+    (callsFrom (n - l .taken) script (l .at) ≡ []) × (placeFrom (n - l .taken) script (l .at) ≡ l .at) × (c .loop-test .out ≡ l .out)
+
+no-more : (c : tie.Left-loop Inv-loop μ-loop) → NoMore c
+no-more c =
+    let l = c .before .loop in
+    let n = c .before .before .before .before .allowance .result in
+    let script = c .before .before .before .before .before .before .before .args .script .now in
+    ⊎-elim (λ w. (all-taken n (l .taken) script (l .at) (w .0 .left), all-here n (l .taken) script (l .at) (w .0 .left), w .1))
+    (λ w. let t =
+    turns-not _ _ _ (l .state) (l .at) (l .out) _ _ _ _ _ _ (w .0 .taken) (w .2 .result) _ refl (w .2 .ensures) (not-true _ (w .6 .taken)) in
+    (t .0, t .1, w .7 ∙ t .2))
+    (c .loop-test .came)
+
+sub-t15 : tie.Need-sub-t15 Inv-loop μ-loop
+sub-t15 c =
+    let h = allowed-left _ _ _ _ (c .before .before .before .before .allowance .ensures) in
     let t = c .before .loop .inv .few in
     omega arith
 
-came-to-requires-2 : tie.Need-came-to-requires-2 Inv-loop μ-loop
-came-to-requires-2 c κs = search needs
+same-length : tie.Need-same-length Inv-loop μ-loop
+same-length c = ap length (no-more c .2) ∙ c .before .loop .inv .same
 
-same-length-2 : tie.Need-same-length-2 Inv-loop μ-loop
-same-length-2 c = search needs
-
-returns-2 : tie.Need-returns-2 Inv-loop μ-loop
-returns-2 c =
-    let loop = c .before .before in
-    let counted = loop .before .before in
+returns : tie.Need-returns Inv-loop μ-loop
+returns c =
+    let l = c .before .loop in
+    let counted = c .before .before .before in
     let allowed = counted .before in
     let a = allowed .before .before .before .args in
-    let n = allowed .allowance .result in
-    let l = loop .loop in
-    let done = c .before .loop-test .left in
-    ended (a .script .now) (a .from) (a .budget) (a .out .now) (l .out) (l .state) (l .at) (l .taken) (l .written) n (counted .difference .result)
-    (allowed .allowance .ensures) (counted .difference .ensures) (l .inv) (all-taken n (l .taken) (a .script .now) (l .at) done)
-    (all-here n (l .taken) (a .script .now) (l .at) done) _ (c .came-to2 .ensures)
+    let m = no-more c in
+    rw (m .2)
+    (ended (a .script .now) (a .from) (a .budget) (a .out .now) (l .out) (l .state) (l .at) (l .taken) (l .written) (allowed .allowance .result)
+    (counted .difference .result) (allowed .allowance .ensures) (counted .difference .ensures) (l .inv) (m .0) (m .1) _ refl)
 
 pub run-spec : {M : Type 1} → statement M
 run-spec =
@@ -124,14 +111,9 @@ run-spec =
     add-step
     add-step-2
     step-requires
-    sub-came-to
-    came-to-requires
-    same-length
-    returns
     add-taken
     loop-less
     loop-again
-    sub-came-to-2
-    came-to-requires-2
-    same-length-2
-    returns-2)
+    sub-t15
+    same-length
+    returns)
