@@ -29,6 +29,7 @@ use Rattle.script.specs.declared.ReadScript.{ReadScript}
 use Rattle.script.specs.Lines.{Reading, Bad, Good}
 use Rattle.script.specs.Script.{Script, scriptOf}
 use Rattle.script.specs.Read.{refusedAt, answered, readScriptOf}
+use Rattle.run.specs.declared.Running.{Running}
 use Rattle.session.specs.declared.Opened.{Opened}
 use Rattle.session.specs.Open.{isTooLong, formRefusal, formPlace, nowhere, startBy, scriptRefusal, scriptPlace, startOf, OpensScript}
 use Rattle.session.specs.Listing.{refusalLine, lastLine, Lists}
@@ -91,30 +92,35 @@ opens : (bytes : List ℕ) (x : Opened) → OpensBy (isTooLong bytes) (scriptOf 
 unfolding scriptRefusal scriptPlace startOf
 opens bytes x o = record { refusal = o .refusal; place = o .place; start = o .start }
 
-abbrev unopenedOf : ReadScript → Opened
-unopenedOf r = record { refusal = r .refusal; place = r .place; start = nowhere }
-
-refused-by : (long : Bool) (form : Reading Script) → (refusalNumber (reading long form .refusal) ≡ 0 → ⊥) → OpensBy long form (unopenedOf (reading long form))
-unfolding answered
-refused-by true form refused = record { refusal = refl; place = refl; start = refl }
-refused-by false (Bad place) refused = record { refusal = refl; place = refl; start = refl }
-refused-by false (Good s last) refused = absurd (refused refl)
-
--- 12, or 11 at its place
-pub opens-refused : (bytes : List ℕ) (r : ReadScript) (number : ℕ) (x : Opened) → r ≡ readScriptOf bytes → number ≡ refusalNumber (r .refusal)
-    → (number ≡ 0 → ⊥) → x ≡ unopenedOf r → OpensScript bytes x
-unfolding readScriptOf
-opens-refused bytes r number x e n refused is =
-    subst (OpensScript bytes) (sym (is ∙ ap unopenedOf e))
-    (opens bytes (unopenedOf (readScriptOf bytes))
-    (refused-by (isTooLong bytes) (scriptOf bytes) (λ z. refused (n ∙ ap (λ x. refusalNumber (x .refusal)) e ∙ z))))
-
 abbrev OpensRead : ReadScript → Made → Type 0
 OpensRead r made = Opens (take (r .count) (r .participants)) (r .policy) (r .revision) (r .generation) made
 
+abbrev begun : ReadScript → Made → Running
+begun r made = record { state = made .state; at = r .«events_at»; events = r .events; left = r .events }
+
+abbrev refusedOf : ReadScript → Made → Opened
+refusedOf r made = record { refusal = r .refusal; place = r .place; start = begun r made }
+
+-- what is refused tells of no participant, whose opening leaves the blank state
+refused-by : (long : Bool) (form : Reading Script) (made : Made) → (refusalNumber (reading long form .refusal) ≡ 0 → ⊥) → OpensRead (reading long form) made
+    → OpensBy long form (refusedOf (reading long form) made)
+unfolding answered openingRefusal openedHeld
+refused-by true form made refused o = record { refusal = refl; place = refl; start = ap (λ h. record { state = h; at = 0; events = 0; left = 0 }) (o .state) }
+refused-by false (Bad place) made refused o =
+    record { refusal = refl; place = refl; start = ap (λ h. record { state = h; at = 0; events = 0; left = 0 }) (o .state) }
+refused-by false (Good s last) made refused o = absurd (refused refl)
+
+-- 12, or 11 at its place
+pub opens-refused : (bytes : List ℕ) (r : ReadScript) (number : ℕ) (made : Made) → r ≡ readScriptOf bytes → number ≡ refusalNumber (r .refusal)
+    → (number ≡ 0 → ⊥) → OpensRead r made → OpensScript bytes (refusedOf r made)
+unfolding readScriptOf
+opens-refused bytes r number made e n refused o =
+    subst (λ x. OpensScript bytes (refusedOf x made)) (sym e)
+    (opens bytes (refusedOf (readScriptOf bytes) made)
+    (refused-by (isTooLong bytes) (scriptOf bytes) made (λ z. refused (n ∙ ap (λ x. refusalNumber (x .refusal)) e ∙ z)) (subst (λ x. OpensRead x made) e o)))
+
 abbrev openedOf : ReadScript → Made → Opened
-openedOf r made =
-    record { refusal = made .refusal; place = 0; start = record { state = made .state; at = r .«events_at»; events = r .events; left = r .events } }
+openedOf r made = record { refusal = made .refusal; place = r .place; start = begun r made }
 
 opened-by : (long : Bool) (form : Reading Script) (made : Made) → refusalNumber (reading long form .refusal) ≡ 0 → OpensRead (reading long form) made
     → OpensBy long form (openedOf (reading long form) made)

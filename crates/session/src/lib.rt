@@ -1,11 +1,9 @@
 // A script's listing before and after its run (document 01, "Script and its listing"): the script opened, the line of its refusal, and the last line. New here:
 // the Rust has no scripts. Refused as scripts are, 12, 11 with its place, then as the opening; a room too small for the line is left as it is.
-ghost use mathlib.Core.Path.{_≡_};
 ghost use Rattle.records.specs.Numbers.{refusalNumber};
-ghost use Rattle.session.specs.Open.{nowhere, OpensScript};
+ghost use Rattle.session.specs.Open.{OpensScript};
 ghost use Rattle.session.specs.Listing.{refusalLine, lastLine, Lists};
 use records::CoordinationPhase;
-use records::LifecyclePolicy;
 use records::Refusal;
 use run::Running;
 use state::FederateCoordinationState;
@@ -18,50 +16,30 @@ pub struct Opened {
     pub start: Running,
 }
 
-fn unopened(refusal: Refusal, place: usize) -> Opened
-    ensures { λ r. ⌜ r ≡ record { refusal = refusal; place = place; start = nowhere } ⌝ }
-{
-    let none: [u32; 0] = [];
-    let opened = opening::new(&none, LifecyclePolicy::KeepAlive, 0, 0);
-    let state = opened.state;
-    let start = Running {
-        state,
-        at: 0,
-        events: 0,
-        left: 0,
-    };
-    Opened {
-        refusal,
-        place,
-        start,
-    }
-}
-
 // The script that the bytes are, opened: refused 12, 11 with its place, then as the opening.
 pub fn open(bytes: &[u8]) -> Opened
     ensures { λ r. ⌜ OpensScript (now (bytes .entry)) r ⌝ }
 {
     let read = script::read_script(bytes);
-    let refusal = read.refusal;
-    if records::refusal_number(refusal) != 0 {
-        return unopened(refusal, read.place);
-    }
     let participants = read.participants;
     let policy = read.policy;
     let count = read.count;
     let listed: &[u32] = &participants;
     let opened = opening::new(&listed[..count], policy, read.revision, read.generation);
     let state = opened.state;
-    let outcome = opened.refusal;
     let start = Running {
         state,
         at: read.events_at,
         events: read.events,
         left: read.events,
     };
+    let mut refusal = read.refusal;
+    if records::refusal_number(refusal) == 0 {
+        refusal = opened.refusal;
+    }
     Opened {
-        refusal: outcome,
-        place: 0,
+        refusal,
+        place: read.place,
         start,
     }
 }
