@@ -3,8 +3,7 @@
 use mathlib.Core.Path.{refl}
 use Prim.Native.Nat.{_+_, _*_, _≤_, _<_}
 use native.Mathlib.Omega.{arith}
-use borrow.Author.Tests.{eq-eqb, ne-eqb}
-use Rattle.verdicts.proofs.Table.{observation-bound, table-entry, looked-up-verdict}
+use Rattle.verdicts.proofs.Table.{observation-bound, table-entry, counts-by, ignored-by, refused-by, looked-up-verdict}
 use Rattle.verdicts.proofs.verdict_in.Statement.{statement}
 use Rattle.verdicts.proofs.verdict_in.Tie as tie
 
@@ -34,19 +33,19 @@ returns : tie.Need-returns
 returns c =
     let d = c .before in
     let a = d .before .args in
-    looked-up-verdict (a .phase) (a .observation) (d .before .pre) (d .observation-number .ensures) (table-entry _ refl _ (looks d)) (rw (eq-eqb _ 0 (c .if1 .taken)) refl)
+    looked-up-verdict (a .phase) (a .observation) (d .before .pre) (d .observation-number .ensures) (counts-by _ (c .if1 .taken)) (table-entry _ refl _ (looks d))
 
 returns-2 : tie.Need-returns-2
 returns-2 c =
     let d = c .before .before in
     let a = d .before .args in
-    looked-up-verdict (a .phase) (a .observation) (d .before .pre) (d .observation-number .ensures) (table-entry _ refl _ (looks d)) (rw (ne-eqb _ 0 (c .before .if1 .left), eq-eqb _ 1 (c .if2 .taken)) refl)
+    looked-up-verdict (a .phase) (a .observation) (d .before .pre) (d .observation-number .ensures) (ignored-by _ (c .before .if1 .left) (c .if2 .taken)) (table-entry _ refl _ (looks d))
 
 returns-3 : tie.Need-returns-3
 returns-3 c =
     let d = c .before .before in
     let a = d .before .args in
-    looked-up-verdict (a .phase) (a .observation) (d .before .pre) (d .observation-number .ensures) (table-entry _ refl _ (looks d)) (rw (ne-eqb _ 0 (c .before .if1 .left), ne-eqb _ 1 (c .if2 .left)) refl)
+    looked-up-verdict (a .phase) (a .observation) (d .before .pre) (d .observation-number .ensures) (refused-by _ (c .before .if1 .left) (c .if2 .left)) (table-entry _ refl _ (looks d))
 
 pub verdict-in-spec : {M : Type 1} → statement M
 verdict-in-spec = tie.close (tie.spec observation-number-requires mul-number add-number cast-number array-read-number returns returns-2 returns-3)
