@@ -4,8 +4,7 @@ use mathlib.Core.Bool.{Bool, true, false, cond}
 use mathlib.Core.List.{List, [], _∷_, _++_, append-assoc, append-nil}
 use Prim.Native.Nat.{ℕ, _+_, _*_, _≤_}
 use native.Mathlib.Omega.{arith}
-use lib.ListN.{length, take, length-append}
-use lib.Seq.{take-all}
+use lib.ListN.{length, length-append}
 use Rattle.tags.specs.declared.OptionalTag.{OptionalTag}
 use Rattle.tags.specs.declared.OptionalTag.the-variants.{NoTag, At}
 use Rattle.records.specs.declared.CoordinationAction.{CoordinationAction}
@@ -64,8 +63,8 @@ pub record-written : (a : CoordinationAction) (f : Fields) (room room′ : List 
 unfolding recordOf
 record-written a f room room′ at r e w = rw (sym e) w
 
--- a record written at the front of a room of 56 bytes is its first 56 bytes
-pub written-alone : (a : CoordinationAction) (room : List ℕ) → length room ≡ 56 → take 56 (written room 0 (recordOf a)) ≡ recordOf a
+-- a record written into a room of 56 bytes is all that the room then has
+pub written-alone : (a : CoordinationAction) (room : List ℕ) → length room ≡ 56 → written room 0 (recordOf a) ≡ recordOf a
 written-alone a room e =
     let n : length (recordOf a) ≡ 56 = length-record a in
-    rw (written-fits room 0 (recordOf a) (omega arith), put-whole room (recordOf a) (n ∙ sym e)) (take-all 56 (recordOf a) (omega arith))
+    written-fits room 0 (recordOf a) (omega arith) ∙ put-whole room (recordOf a) (n ∙ sym e)

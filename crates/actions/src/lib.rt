@@ -3,12 +3,12 @@
 // make no action of their parts first; `read_action` refuses with 28 what is no action's record.
 ghost use mathlib.Core.Path.{_≡_};
 ghost use Prim.Native.Nat.{_+_, _*_, _≤_, _<_};
-ghost use mathlib.Core.Bool.{false, cond, _&&_};
+ghost use mathlib.Core.Bool.{false, _&&_};
 ghost use mathlib.Core.List.{_∷_, _++_};
 ghost use lib.ListN.{length, take, getD};
 ghost use Rattle.bytes.specs.Runs.{putAt, fitsAt, written, sameBytes};
-ghost use Rattle.actions.specs.Record.{fields, fieldsOf, flagsOf, headBytes, tagBytes, optionalBytes, firstOf, bytesOf, recordOf, properAction};
-ghost use Rattle.actions.specs.Reading.{flagAt, tagAt, optionalAt, publicationAt, completionAt, candidateOf, readAction};
+ghost use Rattle.actions.specs.Record.{fields, fieldsOf, headBytes, tagBytes, optionalBytes, firstOf, bytesOf, recordOf, properAction};
+ghost use Rattle.actions.specs.Reading.{tagAt, publicationAt, candidateOf, readAction};
 ghost use Rattle.tags.specs.declared.OptionalTag.the-variants.{NoTag, At};
 ghost use Rattle.records.specs.declared.CoordinationAction.the-variants.{Publish, AdvanceHorizon, Grant, Complete};
 use records::CoordinationAction;
@@ -75,13 +75,6 @@ fn published(p: FederatePublication) -> Fields
     }
 }
 
-fn completed(c: FederateCompletion) -> Fields
-    ensures { λ r. ⌜ r ≡ fields 4 0 0 (At (c .completed)) NoTag (c .«network_input») ⌝ }
-{
-    let tag = c.completed;
-    tagged(4, 0, tag, c.network_input)
-}
-
 // What the action's record is made of.
 pub fn fields_of(action: CoordinationAction) -> Fields
     ensures { λ r. ⌜ r ≡ fieldsOf action ⌝ }
@@ -90,7 +83,10 @@ pub fn fields_of(action: CoordinationAction) -> Fields
         CoordinationAction::Publish(p) => published(p),
         CoordinationAction::AdvanceHorizon { tag } => tagged(2, 0, tag, false),
         CoordinationAction::Grant { enclave, tag } => tagged(3, enclave, tag, false),
-        CoordinationAction::Complete(c) => completed(c),
+        CoordinationAction::Complete(c) => {
+            let tag = c.completed;
+            tagged(4, 0, tag, c.network_input)
+        }
         CoordinationAction::CompletionProbe {
             enclave,
             generation,
@@ -102,23 +98,6 @@ pub fn fields_of(action: CoordinationAction) -> Fields
         CoordinationAction::Stop => untagged(10, 0, 0),
         CoordinationAction::Abort => untagged(11, 0, 0),
     }
-}
-
-fn flag(raised: bool, value: u8) -> u8
-    ensures { λ r. ⌜ r ≡ cond raised value 0 ⌝ }
-{
-    if raised { value } else { 0 }
-}
-
-fn flags_of(f: Fields) -> u8
-    ensures { λ r. ⌜ r ≡ flagsOf f ⌝ }
-{
-    let first = f.first;
-    let second = f.second;
-    let one = flag(tags::is_present(first), 1);
-    let two = flag(tags::is_present(second), 2);
-    let four = flag(f.network_input, 4);
-    one + two + four
 }
 
 fn join_head(kind: u8, flags: u8, e: [u8; 4], n: [u8; 8]) -> [u8; 16]
@@ -174,10 +153,14 @@ fn join_tag(s: [u8; 8], n: [u8; 4], m: [u8; 8]) -> [u8; 20]
 fn head_bytes(f: Fields) -> [u8; 16]
     ensures { λ r. ⌜ r ≡ headBytes f ⌝ }
 {
-    let flags = flags_of(f);
+    let first = f.first;
+    let second = f.second;
+    let one: u8 = if tags::is_present(first) { 1 } else { 0 };
+    let two: u8 = if tags::is_present(second) { 2 } else { 0 };
+    let four: u8 = if f.network_input { 4 } else { 0 };
     let enclave = bytes::le4(f.enclave);
     let number = bytes::le8(f.number);
-    join_head(f.kind, flags, enclave, number)
+    join_head(f.kind, one + two + four, enclave, number)
 }
 
 fn tag_bytes(t: Tag) -> [u8; 20]
@@ -261,14 +244,8 @@ pub fn write_completion(room: &mut [u8], place: usize, completion: FederateCompl
     ensures { λ r. ⌜ r ≡ fitsAt (now (room .entry)) (56 * place) (recordOf (Complete completion)) ⌝ }
     ensures bytes { λ _. ⌜ now (room .exit) ≡ written (now (room .entry)) (56 * place) (recordOf (Complete completion)) ⌝ }
 {
-    write_fields(room, place, completed(completion))
-}
-
-fn has_flag(s: &[u8], value: u8) -> bool
-    requires { ⌜ (0 < value) × (1 < length (now s)) ⌝ }
-    ensures { λ r. ⌜ r ≡ flagAt value (now (s .entry)) ⌝ }
-{
-    s[1] / value % 2 == 1
+    let tag = completion.completed;
+    write_fields(room, place, tagged(4, 0, tag, completion.network_input))
 }
 
 fn tag_at(s: &[u8], at: usize) -> Tag
@@ -285,37 +262,27 @@ fn tag_at(s: &[u8], at: usize) -> Tag
     }
 }
 
-fn optional_at(present: bool, s: &[u8], at: usize) -> OptionalTag
-    requires { ⌜ at ≤ 36 ⌝ }
-    ensures { λ r. ⌜ r ≡ optionalAt present (now (s .entry)) at ⌝ }
-{
-    if present {
-        OptionalTag::At(tag_at(s, at))
-    } else {
-        OptionalTag::NoTag
-    }
-}
-
 fn publication_at(s: &[u8]) -> FederatePublication
     requires { ⌜ 1 < length (now s) ⌝ }
     ensures { λ r. ⌜ r ≡ publicationAt (now (s .entry)) ⌝ }
 {
-    let next_event = optional_at(has_flag(s, 1), s, 16);
-    let grant_horizon = optional_at(has_flag(s, 2), s, 36);
+    let flags = s[1];
+    let first = tag_at(s, 16);
+    let second = tag_at(s, 36);
+    let next_event = if flags % 2 == 1 {
+        OptionalTag::At(first)
+    } else {
+        OptionalTag::NoTag
+    };
+    let grant_horizon = if flags / 2 % 2 == 1 {
+        OptionalTag::At(second)
+    } else {
+        OptionalTag::NoTag
+    };
     FederatePublication {
         revision: bytes::get8(s, 8),
         next_event,
         grant_horizon,
-    }
-}
-
-fn completion_at(s: &[u8]) -> FederateCompletion
-    requires { ⌜ 1 < length (now s) ⌝ }
-    ensures { λ r. ⌜ r ≡ completionAt (now (s .entry)) ⌝ }
-{
-    FederateCompletion {
-        completed: tag_at(s, 16),
-        network_input: has_flag(s, 4),
     }
 }
 
@@ -331,7 +298,10 @@ fn candidate(s: &[u8]) -> ReadAction
         1 => ReadAction::Action(CoordinationAction::Publish(publication_at(s))),
         2 => ReadAction::Action(CoordinationAction::AdvanceHorizon { tag }),
         3 => ReadAction::Action(CoordinationAction::Grant { enclave, tag }),
-        4 => ReadAction::Action(CoordinationAction::Complete(completion_at(s))),
+        4 => ReadAction::Action(CoordinationAction::Complete(FederateCompletion {
+            completed: tag,
+            network_input: s[1] / 4 % 2 == 1,
+        })),
         5 => ReadAction::Action(CoordinationAction::CompletionProbe {
             enclave,
             generation: number,
@@ -349,42 +319,20 @@ fn candidate(s: &[u8]) -> ReadAction
     }
 }
 
-fn is_proper_action(action: CoordinationAction) -> bool
-    ensures { λ r. ⌜ r ≡ properAction action ⌝ }
-{
-    let f = fields_of(action);
-    let first = f.first;
-    let second = f.second;
-    if tags::proper_if_present(first) {
-        return tags::proper_if_present(second);
-    }
-    false
-}
-
-fn begin_alike(a: &[u8], b: &[u8]) -> bool
-    requires { ⌜ (56 ≤ length (now a)) × (56 ≤ length (now b)) ⌝ }
-    ensures { λ r. ⌜ r ≡ sameBytes (take 56 (now (a .entry))) (take 56 (now (b .entry))) ⌝ }
-{
-    bytes::same_bytes(&a[..56], &b[..56])
-}
-
-fn is_record(action: CoordinationAction, s: &[u8]) -> bool
-    requires { ⌜ 56 ≤ length (now s) ⌝ }
-    ensures { λ r. ⌜ r ≡ sameBytes (recordOf action) (take 56 (now (s .entry))) ⌝ }
-{
-    let mut record = [0u8; 56];
-    write_action(&mut record, 0, action);
-    begin_alike(&record, s)
-}
-
+// Whether the first 56 bytes are the action's record and its tags are proper.
 fn is_confirmed(action: CoordinationAction, s: &[u8]) -> bool
     requires { ⌜ 56 ≤ length (now s) ⌝ }
     ensures { λ r. ⌜ r ≡ (sameBytes (recordOf action) (take 56 (now (s .entry))) && properAction action) ⌝ }
 {
-    if is_record(action, s) {
-        return is_proper_action(action);
-    }
-    false
+    let mut record = [0u8; 56];
+    write_action(&mut record, 0, action);
+    let same = bytes::same_bytes(&record, &s[..56]);
+    let f = fields_of(action);
+    let first = f.first;
+    let second = f.second;
+    let proper = tags::proper_if_present(first);
+    let second_proper = tags::proper_if_present(second);
+    same && proper && second_proper
 }
 
 // The action whose record the first 56 bytes are, or 28 where there are fewer or they are no record of an action with proper tags.

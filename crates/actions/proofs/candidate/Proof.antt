@@ -20,8 +20,8 @@ tag-at-requires c κs = search needs
 publication-at-requires : tie.Need-publication-at-requires
 publication-at-requires c κs = search needs
 
-completion-at-requires : tie.Need-completion-at-requires
-completion-at-requires c κs = search needs
+shared-slice-read-t14 : tie.Need-shared-slice-read-t14
+shared-slice-read-t14 c = search needs
 
 returns : tie.Need-returns
 returns c = rw (c .before .match .keys1, c .publication-at .ensures)
@@ -33,7 +33,7 @@ returns-3 : tie.Need-returns-3
 returns-3 c = rw (c .match .keys3, c .before .before .before .get4 .ensures, c .before .tag-at .ensures)
 
 returns-4 : tie.Need-returns-4
-returns-4 c = rw (c .before .match .keys4, c .completion-at .ensures)
+returns-4 c = rw (c .before .match .keys4, c .before .before .tag-at .ensures)
 
 returns-5 : tie.Need-returns-5
 returns-5 c = rw (c .match .keys5, c .before .before .before .get4 .ensures, c .before .before .get8 .ensures)
@@ -84,7 +84,7 @@ candidate-spec =
     get8-requires
     tag-at-requires
     publication-at-requires
-    completion-at-requires
+    shared-slice-read-t14
     returns
     returns-2
     returns-3

@@ -26,8 +26,8 @@ tagged-requires-2 c κs = search needs
 enum-known-action-4 : tie.Need-enum-known-action-4
 enum-known-action-4 c = search needs
 
-completed-requires : tie.Need-completed-requires
-completed-requires c κs = search needs
+tagged-requires-3 : tie.Need-tagged-requires-3
+tagged-requires-3 c κs = search needs
 
 enum-known-action-5 : tie.Need-enum-known-action-5
 enum-known-action-5 c = search needs
@@ -81,7 +81,7 @@ returns-3 : tie.Need-returns-3
 returns-3 c = c .tagged2 .ensures ∙ ap fieldsOf (sym (c .before .before .action3 .given .1))
 
 returns-4 : tie.Need-returns-4
-returns-4 c = c .completed .ensures ∙ ap fieldsOf (sym (c .before .before .action4 .given .1))
+returns-4 c = c .tagged3 .ensures ∙ ap fieldsOf (sym (c .before .before .before .action4 .given .1))
 
 returns-5 : tie.Need-returns-5
 returns-5 c = c .untagged .ensures ∙ ap fieldsOf (sym (c .before .before .action5 .given .1))
@@ -115,7 +115,7 @@ fields-of-spec =
     enum-known-action-3
     tagged-requires-2
     enum-known-action-4
-    completed-requires
+    tagged-requires-3
     enum-known-action-5
     untagged-requires
     enum-known-action-6

@@ -4,8 +4,8 @@ use Rattle.actions.proofs.Record.{record-written}
 use Rattle.actions.proofs.write_completion.Statement.{statement}
 use Rattle.actions.proofs.write_completion.Tie as tie
 
-completed-requires : tie.Need-completed-requires
-completed-requires c κs = search needs
+tagged-requires : tie.Need-tagged-requires
+tagged-requires c κs = search needs
 
 write-fields-requires : tie.Need-write-fields-requires
 write-fields-requires c κs = search needs
@@ -16,7 +16,8 @@ same-length c = search needs
 returns : tie.Need-returns
 returns c =
     let w = c .before .before in
-    record-written _ _ (w .before .before .before .before .args .room .now) _ _ _ (w .before .completed .ensures) (w .write-fields .ensures)
+    record-written _ _ (c .before .before .before .before .before .before .before .args .room .now) _ _ _ (w .before .tagged .ensures) (w .write-fields .ensures)
 
 pub write-completion-spec : {M : Type 1} → statement M
-write-completion-spec = tie.close (tie.spec completed-requires write-fields-requires same-length returns)
+write-completion-spec =
+    tie.close (tie.spec tagged-requires write-fields-requires same-length returns)
