@@ -2,7 +2,6 @@
 // New here: the Rust prints nothing. A line is made of its first word and of fields, each with the space before it. Nothing is refused: the callers lend
 // room for the longest of its kind, and every byte outside keeps its value.
 ghost use Prim.Native.Nat.{_+_, _≤_};
-ghost use mathlib.Core.Path.{_≡_};
 ghost use mathlib.Core.List.{[], _∷_};
 ghost use lib.ListN.{length};
 ghost use Rattle.printing.specs.Runs.{Puts};

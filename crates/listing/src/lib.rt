@@ -2,7 +2,6 @@
 // New here: the Rust prints nothing. Nothing is refused: the callers lend room for the longest line of its kind, and every byte outside
 // the line keeps its value.
 ghost use Prim.Native.Nat.{_+_, _*_, _≤_};
-ghost use mathlib.Core.Path.{_≡_};
 ghost use lib.ListN.{length, drop};
 ghost use Rattle.records.specs.Numbers.{refusalNumber};
 ghost use Rattle.actions.specs.Reading.{readAction};
