@@ -1,4 +1,5 @@
 pub mod Fields
 pub mod Numbers
+pub mod Names
 pub mod Listed
 pub mod Lines

@@ -3,10 +3,8 @@
 ghost use mathlib.Core.Path.{_≡_};
 ghost use mathlib.Core.List.{_∷_};
 ghost use Prim.Native.Nat.{_+_, _≤_, _<_};
-ghost use mathlib.Core.Bool.{cond};
 ghost use mathlib.Core.Option.{none, some};
 ghost use lib.ListN.{length, drop};
-ghost use Rattle.bytes.specs.Runs.{sameBytes};
 ghost use Rattle.numerals.specs.Numerals.{space};
 ghost use Rattle.numerals.specs.Told.{until};
 ghost use Rattle.events.specs.Events.{eventNumber, listed, inputOf, byFields, eventOf};
@@ -22,43 +20,31 @@ struct Named {
     enclaves: [u32; 32],
 }
 
-fn numbered(w: &[u8], name: &[u8], number: u8, other: u8) -> u8
-    ensures { λ r. ⌜ r ≡ cond (sameBytes (now (w .entry)) (now (name .entry))) number other ⌝ }
-{
-    if bytes::same_bytes(w, name) {
-        return number;
-    }
-    other
-}
-
-fn event_number(w: &[u8]) -> u8
-    ensures { λ r. ⌜ r ≡ eventNumber (now (w .entry)) ⌝ }
-{
-    let k17 = numbered(w, b"progress", 17, 0);
-    let k16 = numbered(w, b"input", 16, k17);
-    let k15 = numbered(w, b"done", 15, k16);
-    let k14 = numbered(w, b"late", 14, k15);
-    let k13 = numbered(w, b"begin", 13, k14);
-    let k12 = numbered(w, b"horizon", 12, k13);
-    let k11 = numbered(w, b"stop", 11, k12);
-    let k10 = numbered(w, b"idle", 10, k11);
-    let k9 = numbered(w, b"observe", 9, k10);
-    let k8 = numbered(w, b"sent", 8, k9);
-    let k7 = numbered(w, b"acquire", 7, k8);
-    let k6 = numbered(w, b"failed", 6, k7);
-    let k5 = numbered(w, b"stopped", 5, k6);
-    let k4 = numbered(w, b"observed", 4, k5);
-    let k3 = numbered(w, b"complete", 3, k4);
-    let k2 = numbered(w, b"publish", 2, k3);
-    numbered(w, b"active", 1, k2)
-}
-
 // Where the field after the space at this place ends.
 fn field_end(line: &[u8], at: usize) -> usize
     requires { ⌜ at < length (now line) ⌝ }
     ensures { λ r. ⌜ (r ≡ at + 1 + until space (drop (at + 1) (now (line .entry)))) × (r ≤ length (now (line .entry))) ⌝ }
 {
     at + 1 + numerals::find(&line[at + 1..], 32)
+}
+
+// The number of an event's word; 0 where it is none's.
+fn event_number(w: &[u8]) -> u8
+    ensures { λ r. ⌜ r ≡ eventNumber (now (w .entry)) ⌝ }
+{
+    let names: &[u8] =
+        b" active publish complete observed stopped failed acquire sent observe idle stop horizon begin late done input progress";
+    let mut number: u8 = 1;
+    let mut at: usize = 0;
+    while at < names.len() {
+        let end = field_end(names, at);
+        if bytes::same_bytes(w, &names[at + 1..end]) {
+            return number;
+        }
+        number += 1;
+        at = end;
+    }
+    0
 }
 
 fn after_two(kind: u8, a: &[u8], b: &[u8], line: &[u8], at: usize) -> Event
