@@ -144,7 +144,13 @@ pub fn handle_acquisition(
     }
     let held_coordination = state::coordination_by_fields(coordination);
     let held_gate = state::gate_by_fields(gate);
-    let acquired = grants::acquire(held_coordination, held_gate, horizon, acquisition.revision, tag);
+    let acquired = grants::acquire(
+        held_coordination,
+        held_gate,
+        horizon,
+        acquisition.revision,
+        tag,
+    );
     let opened = acquired.gate;
     state.gate = opened;
     if !acquired.grants {

@@ -5,8 +5,8 @@ use mathlib.Core.Bool.{Bool, true, false, not, cond, _&&_}
 use mathlib.Core.List.{List, [], _∷_}
 use Prim.Native.Nat.{ℕ, zero, suc, _+_, _*_, _≤_, _<_}
 use native.Mathlib.Omega.{arith}
-use borrow.Author.Tests.{lt-ltb, le-ltb, ltb-false, eqb-true}
-use lib.Dec.{T, eqb, ltb}
+use borrow.Author.Tests.{lt-ltb, le-ltb, ltb-false, leb-true, leb-false, eqb-true}
+use lib.Dec.{T, eqb, leb, ltb}
 use lib.ListN.{length}
 use Rattle.records.specs.Numbers.{refusalNumber}
 use Rattle.records.specs.declared.Refusal.{Refusal}
@@ -30,7 +30,7 @@ use Rattle.calls.proofs.Standing.{Standing, promised-refused, promised-
 abbrev pub Ends : Given → Held → Called → List ℕ → List ℕ → Type 0
 Ends g s r before after = Promised g s r × (after ≡ putAt before 0 (recordsOf (actionsOf g s)))
 
-no-way : false ≡ true → ⊥
+pub no-way : false ≡ true → ⊥
 no-way e = let z : _≡_ {A = ℕ} 0 1 = cc in omega arith
 
 -- ---- the room
@@ -126,13 +126,17 @@ module _ (g : Given) (s : Held) {b c : Bool} {n : Refusal} (f : First g s b c n)
 
   -- one of the three
   pub first-shut : isOpen (g .room) (s .count) b c ≡ false → refusalNumber n ≡ 0 → ⊥
-  first-shut shut = subst (λ (x : Refusal). refusalNumber x ≡ 0 → ⊥) (sym (f .is)) (go short b c shut)
+  first-shut shut = subst (λ (x : Refusal). refusalNumber x ≡ 0 → ⊥) (sym (f .is)) (go short (leb (56 * (s .count + 2)) (g .room)) b c refl refl shut)
     where
-      go : (a b c : Bool) → (not a && (b && c)) ≡ false → refusalNumber (cond a RoomTooSmall (tagFirst b c)) ≡ 0 → ⊥
-      go true b c q l = omega arith
-      go false false c q l = omega arith
-      go false true false q l = omega arith
-      go false true true q l = no-way (sym q)
+      go : (a d b c : Bool) → short ≡ a → leb (56 * (s .count + 2)) (g .room) ≡ d → (d && (b && c)) ≡ false → refusalNumber (cond a RoomTooSmall (tagFirst b c)) ≡ 0 → ⊥
+      go true d b c h k q l = omega arith
+      go false d false c h k q l = omega arith
+      go false d true false h k q l = omega arith
+      go false true true true h k q l = no-way (sym q)
+      go false false true true h k q l =
+          let x = ltb-false (g .room) (56 * (s .count + 2)) h in
+          let y = leb-false (56 * (s .count + 2)) (g .room) k in
+          omega arith
 
   -- none of the three
   pub first-none : refusalNumber n ≡ 0 → (56 * (s .count + 2) ≤ g .room) × (b ≡ true) × (c ≡ true)
@@ -148,13 +152,13 @@ module _ (g : Given) (s : Held) {b c : Bool} {n : Refusal} (f : First g s b c n)
 
 -- none of the three, asked before any refusal is made
 pub open-three : (room count : ℕ) (b c : Bool) → isOpen room count b c ≡ true → (56 * (count + 2) ≤ room) × (b ≡ true) × (c ≡ true)
-open-three room count b c h = go (ltb room (56 * (count + 2))) b c refl h
+open-three room count b c h = go (leb (56 * (count + 2)) room) b c refl h
   where
-    go : (a b c : Bool) → ltb room (56 * (count + 2)) ≡ a → (not a && (b && c)) ≡ true → (56 * (count + 2) ≤ room) × (b ≡ true) × (c ≡ true)
-    go true b c q l = absurd (no-way l)
-    go false false c q l = absurd (no-way l)
-    go false true false q l = absurd (no-way l)
-    go false true true q l = (ltb-false room (56 * (count + 2)) q, refl, refl)
+    go : (a b c : Bool) → leb (56 * (count + 2)) room ≡ a → (a && (b && c)) ≡ true → (56 * (count + 2) ≤ room) × (b ≡ true) × (c ≡ true)
+    go false b c q l = absurd (no-way l)
+    go true false c q l = absurd (no-way l)
+    go true true false q l = absurd (no-way l)
+    go true true true q l = (leb-true (56 * (count + 2)) room q, refl, refl)
 
 -- the actions of a taken call fit into the room that it demands
 pub actions-fit : (g : Given) (s : Held) → Passes s → 0 ≡ refusalOf g s → 56 * length (takeStep (g .what) (view s) .actions) ≤ 56 * (s .count + 2)

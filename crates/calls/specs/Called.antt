@@ -1,10 +1,10 @@
 -- What a public call on the state held promises, in the words of the rules: refusal, answer, number of actions, the state with every cell, and the
 -- actions whose records the room holds afterwards. Assumes nothing.
 use mathlib.Core.Path.{_≡_}
-use mathlib.Core.Bool.{Bool, not, cond, _&&_}
+use mathlib.Core.Bool.{Bool, cond, _&&_}
 use mathlib.Core.List.{List, []}
 use Prim.Native.Nat.{ℕ, _+_, _*_}
-use lib.Dec.{eqb, ltb}
+use lib.Dec.{eqb, leb, ltb}
 use lib.ListN.{length}
 use Rattle.records.specs.Numbers.{refusalNumber}
 use Rattle.records.specs.declared.Refusal.{Refusal}
@@ -55,4 +55,4 @@ tagFirst proper known = cond proper (cond known Taken UnknownEnclave) ImproperTa
 
 -- none of the three
 abbrev pub isOpen : ℕ → ℕ → Bool → Bool → Bool
-isOpen room count proper known = not (ltb room (56 * (count + 2))) && (proper && known)
+isOpen room count proper known = leb (56 * (count + 2)) room && (proper && known)

@@ -41,10 +41,7 @@ pub fn is_open(room: usize, count: usize, proper: bool, known: bool) -> bool
     requires { ⌜ count ≤ 32 ⌝ }
     ensures { λ r. ⌜ r ≡ isOpen room count proper known ⌝ }
 {
-    if room < 56 * (count + 2) {
-        return false;
-    }
-    proper && known
+    (56 * (count + 2) <= room) & (proper & known)
 }
 
 // 8 before a refusal that comes later, or before none.

@@ -43,8 +43,14 @@ add-then more last room room₁ room₂ n n₁ n₂ f g room₀ acts w h =
 -- no kind without tags
 pub said-outside : (k e r : ℕ) → (6 ≤ k → k ≤ 11 → ⊥) → [] ≡ saidOf k e r
 said-outside k e r out =
-    rw (ne-eqb k 6 (λ z. out (omega arith) (omega arith)), ne-eqb k 7 (λ z. out (omega arith) (omega arith)), ne-eqb k 8 (λ z. out (omega arith) (omega arith)),
-    ne-eqb k 9 (λ z. out (omega arith) (omega arith)), ne-eqb k 10 (λ z. out (omega arith) (omega arith)), ne-eqb k 11 (λ z. out (omega arith) (omega arith))) refl
+    rw (
+      ne-eqb k 6 (λ z. out (omega arith) (omega arith)),
+      ne-eqb k 7 (λ z. out (omega arith) (omega arith)),
+      ne-eqb k 8 (λ z. out (omega arith) (omega arith)),
+      ne-eqb k 9 (λ z. out (omega arith) (omega arith)),
+      ne-eqb k 10 (λ z. out (omega arith) (omega arith)),
+      ne-eqb k 11 (λ z. out (omega arith) (omega arith)),
+    ) refl
 
 -- the last of the kinds, where it is none of the others
 pub said-last : (k e r : ℕ) → (k ≡ 6 → ⊥) → (k ≡ 7 → ⊥) → (k ≡ 8 → ⊥) → (k ≡ 9 → ⊥) → (k ≡ 10 → ⊥) → 6 ≤ k → k ≤ 11 → saidOf k e r ≡ Abort ∷ []

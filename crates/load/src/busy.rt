@@ -73,7 +73,11 @@ pub fn play(opened: FederateCoordinationState, load: Load) -> Totals
         let mut place: usize = 0;
         let mut enclave: u32 = 0;
         while place < load.count {
-            let called = federate::handle_scheduler(state, publish(load, turn, place, enclave), room);
+            let called = federate::handle_scheduler(
+                state,
+                publish(load, turn, place, enclave),
+                room,
+            );
             let reply = called.reply;
             state = called.state;
             totals = totals::added(totals, reply);

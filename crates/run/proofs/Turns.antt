@@ -10,6 +10,7 @@ use Rattle.bytes.specs.Runs.{putAt}
 use Rattle.bytes.proofs.Runs.{put-append, put-nil, length-put}
 use Rattle.rules.specs.Model.{Call}
 use Rattle.state.specs.declared.FederateCoordinationState.{FederateCoordinationState as Held}
+use Rattle.calls.proofs.Ends.{no-way}
 use Rattle.calls.specs.Called.{stateOf}
 use Rattle.events.specs.Events.{eventOf}
 use Rattle.script.specs.Lines.{Reading, Bad, Good, item}
@@ -132,9 +133,6 @@ module _ (n taken : ℕ) (script : List ℕ) (at : ℕ) where
     unfolding placeFrom
     none-moved = let z : n - taken ≡ suc (n - (taken + 1)) = omega arith in
         ap (λ k. placeFrom k script at) z ∙ ap (λ r. placeBy r at (λ q. placeFrom (n - (taken + 1)) script q)) none-here
-
-no-way : false ≡ true → ⊥
-no-way e = let z : _≡_ {A = ℕ} 0 1 = cc in omega arith
 
 -- ---- by what a step answers
 

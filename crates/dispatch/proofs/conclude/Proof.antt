@@ -31,27 +31,33 @@ with-completion-requires c κs = search needs
 returns : tie.Need-returns
 returns c =
     let a = c .before .before .before .args in
-    rw (c .before .next .given .1)
-    ((λ s e good has. concludes-says (now (a .published)) (now (a .seconds)) (now (a .nanoseconds)) (now (a .microsteps)) (a .count)
-    (a .coordination) (a .completion) (a .horizon) (a .lifecycle) s e good has _), λ h. (refl, refl))
+    rw (c .before .next .given .1) (
+      (λ s e good has. concludes-says (now (a .published)) (now (a .seconds)) (now (a .nanoseconds)) (now (a .microsteps)) (a .count)
+          (a .coordination) (a .completion) (a .horizon) (a .lifecycle) s e good has _),
+      λ h. (refl, refl),
+    )
 
 -- it publishes if all are published
 returns-2 : tie.Need-returns-2
 returns-2 c =
     let a = c .before .before .before .before .before .args in
-    rw (c .before .before .before .next2 .given .1, c .with-publication .ensures)
-    ((λ s e good has. concludes-announces (now (a .published)) (now (a .seconds)) (now (a .nanoseconds)) (now (a .microsteps)) (a .count)
-    (a .coordination) (a .completion) (a .horizon) (a .lifecycle) s e good has _ _
-    (c .before .announce .ensures)), λ h. absurd h)
+    rw (c .before .before .before .next2 .given .1, c .with-publication .ensures) (
+      (λ s e good has. concludes-announces (now (a .published)) (now (a .seconds)) (now (a .nanoseconds)) (now (a .microsteps)) (a .count)
+          (a .coordination) (a .completion) (a .horizon) (a .lifecycle) s e good has _ _
+          (c .before .announce .ensures)),
+      λ h. absurd h,
+    )
 
 -- it completes the least completed tag
 returns-3 : tie.Need-returns-3
 returns-3 c =
     let a = c .before .before .before .before .args in
-    rw (c .before .before .enum-told .given .1, c .with-completion .ensures)
-    ((λ s e good has. concludes-completes (now (a .published)) (now (a .seconds)) (now (a .nanoseconds)) (now (a .microsteps)) (a .count)
-    (a .coordination) (a .completion) (a .horizon) (a .lifecycle) s e good has _
-    (c .before .complete-least .ensures)), λ h. (refl, refl))
+    rw (c .before .before .enum-told .given .1, c .with-completion .ensures) (
+      (λ s e good has. concludes-completes (now (a .published)) (now (a .seconds)) (now (a .nanoseconds)) (now (a .microsteps)) (a .count)
+          (a .coordination) (a .completion) (a .horizon) (a .lifecycle) s e good has _
+          (c .before .complete-least .ensures)),
+      λ h. (refl, refl),
+    )
 
 pub conclude-spec : {M : Type 1} → statement M
 conclude-spec =
