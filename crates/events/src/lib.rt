@@ -45,7 +45,7 @@ pub enum ReadObservation {
 }
 
 // `0|1`.
-pub fn mark(t: &[u8]) -> ReadMark
+fn mark(t: &[u8]) -> ReadMark
     ensures { λ r. ⌜ toldMark r ≡ markOf (now (t .entry)) ⌝ }
 {
     if bytes::same_bytes(t, b"0") {
@@ -58,7 +58,7 @@ pub fn mark(t: &[u8]) -> ReadMark
 }
 
 // `probed|parked|rechecked`.
-pub fn observation(t: &[u8]) -> ReadObservation
+fn observation(t: &[u8]) -> ReadObservation
     ensures { λ r. ⌜ toldObservation r ≡ observationOf (now (t .entry)) ⌝ }
 {
     if bytes::same_bytes(t, b"probed") {

@@ -187,7 +187,7 @@ pub fn handle_scheduler(
     let last_completion = advanced.completion;
     let said = concluded.said;
     state.completion = last_completion;
-    // A message about completion leaves the rest as it is.
+    // What stays as it is is not stored: a message about completion changes no more.
     if !dispatch::is_about_completion(flat.kind) {
         state.coordination = next_coordination;
         state.failed = own.failed;
@@ -205,6 +205,7 @@ pub fn handle_scheduler(
         count,
         advanced,
     );
+    // Touched seldom, so last, when no other number is kept at hand.
     if forgets {
         table::clear(&mut state.observation, count);
     }
