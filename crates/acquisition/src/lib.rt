@@ -120,7 +120,7 @@ pub fn handle_acquisition(
     );
     let small = soundness::all_hold(
         both,
-        soundness::are_cells(input_horizon, granted),
+        soundness::are_cells(granted, input_horizon),
         soundness::acquisition_is_sound(gate.stored_revision, stored),
         soundness::rest_is_sound(horizon, state.failed, state.first_failure, state.lifecycle),
     );

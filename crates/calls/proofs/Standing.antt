@@ -60,7 +60,7 @@ pub sound-by-leaves : (s : Held) {flags publication frontiers inputs both horizo
     → frontiers ≡ (isCell (k .«completed_frontier») && isCell (k .«completion_probe»))
     → inputs ≡ soundInputs (k .«first_input») (k .«last_input»)
     → both ≡ (flags && publication && frontiers && inputs)
-    → horizons ≡ (isCell (g .«input_horizon») && isCell (g .granted))
+    → horizons ≡ (isCell (g .granted) && isCell (g .«input_horizon»))
     → acquisition ≡ soundAcquisition (g .«stored_revision») (g .«stored_granted»)
     → rest ≡ soundRest (s .«grant_horizon») (s .failed) (s .«first_failure») (s .lifecycle)
     → small ≡ (both && horizons && acquisition && rest)

@@ -252,7 +252,7 @@ module _ (room : List ℕ) (m : SchedulerMessage) (s : Held) (i : ℕ) (n : Ente
                 room [] (none-written room) (let z = fits in let y = n .wide in omega arith)
 
         -- whatever the state is called that was stored before the records were written, and the one handed back
-        pub ends-0 : a .spent ≡ false → (u : Held) → u ≡ storedEnd s i d k a → (t : Held) → t ≡ wholeEnd s i d k a → (room₁ room₂ : List ℕ) (one two : ℕ)
+        pub ends-0 : a .spent ≡ false → (u : Held) → u ≡ observedEnd s i d k a → (t : Held) → t ≡ wholeEnd s i d k a → (room₁ room₂ : List ℕ) (one two : ℕ)
             → Adds (actionsOf (getD (u .enclaves) i 0) (k .said) (k .coordination)) room 0 room₁ one
             → Adds (saidBy (u .enclaves) (u .seconds) (u .nanoseconds) (u .microsteps) (s .count) (a .saying) a) room₁ one room₂ two
             → r ≡ replied t Taken Silent two → Ends (lent (length room) (callOf m)) s r room room₂

@@ -72,7 +72,7 @@ pub fn handle_scheduler(
     );
     let small = soundness::all_hold(
         both,
-        soundness::are_cells(input_horizon, granted),
+        soundness::are_cells(granted, input_horizon),
         soundness::acquisition_is_sound(gate.stored_revision, stored),
         soundness::rest_is_sound(horizon, state.failed, state.first_failure, lifecycle),
     );
@@ -193,6 +193,9 @@ pub fn handle_scheduler(
         state.failed = own.failed;
         state.first_failure = own.first_failure;
     }
+    if forgets {
+        table::clear(&mut state.observation, count);
+    }
     let number = state.enclaves[place];
     let one = emission::add_said(room, said, next_coordination, number);
     let total = emission::add_saying(
@@ -206,9 +209,6 @@ pub fn handle_scheduler(
         advanced,
     );
     // Touched seldom, so last, when no other number is kept at hand.
-    if forgets {
-        table::clear(&mut state.observation, count);
-    }
     if concluded.drops {
         let held_gate = state.gate;
         state.gate = publication::dropped(held_gate);

@@ -24,10 +24,7 @@ fn tag_of(load: Load, seconds: u64) -> Tag
 fn is_last(load: Load, place: usize) -> bool
     requires { ⌜ place ≤ 31 ⌝ }
 {
-    if 1 < load.count {
-        return place + 1 == load.count;
-    }
-    false
+    (0 < place) & (place + 1 == load.count)
 }
 
 fn publish(load: Load, turn: u64, place: usize, enclave: u32) -> SchedulerMessage

@@ -96,7 +96,7 @@ gate-is : (g : Gate)
     → soundGate g ≡
     (neatGate g && proper-if (g .«input_horizon») && proper-if (g .granted) && properAcquisition (storedOf (g .«stored_revision») (g .«stored_granted»)))
 gate-is g =
-    rw (two-cells (g .«input_horizon») (g .granted), acquisition-is (g .«stored_revision») (g .«stored_granted»)) (simp sorted)
+    rw (two-cells (g .granted) (g .«input_horizon»), acquisition-is (g .«stored_revision») (g .«stored_granted»)) (simp sorted)
 
 -- ---- the places
 
@@ -246,7 +246,7 @@ module _ (c : Coordination) (k : Completion) (g : Gate) (h : Tag) (f : Bool) (e 
       → publication ≡ soundPublication (c .pending) (c .«pending_revision») (c .«pending_next_event») (c .«pending_grant_horizon»)
       → frontiers ≡ (isCell (k .«completed_frontier») && isCell (k .«completion_probe»))
       → inputs ≡ soundInputs (k .«first_input») (k .«last_input»)
-      → horizons ≡ (isCell (g .«input_horizon») && isCell (g .granted))
+      → horizons ≡ (isCell (g .granted) && isCell (g .«input_horizon»))
       → acquisition ≡ soundAcquisition (g .«stored_revision») (g .«stored_granted»)
       → rest ≡ soundRest h f e l
       → x ≡ (flags && publication && frontiers && inputs) → y ≡ (x && horizons && acquisition && rest)

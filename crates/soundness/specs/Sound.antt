@@ -38,7 +38,7 @@ abbrev pub soundAcquisition : ℕ → Tag → Bool
 soundAcquisition r t = cond (t ≡ₜ absent) (eqb r 0) (isProper t)
 
 abbrev pub soundGate : Gate → Bool
-soundGate g = (isCell (g .«input_horizon») && isCell (g .granted)) && soundAcquisition (g .«stored_revision») (g .«stored_granted»)
+soundGate g = (isCell (g .granted) && isCell (g .«input_horizon»)) && soundAcquisition (g .«stored_revision») (g .«stored_granted»)
 
 abbrev pub soundParts : Coordination → Completion → Gate → Bool
 soundParts c k g = soundCoordination c && (soundCompletion k && soundGate g)

@@ -281,7 +281,7 @@ fn gate_is_sound(gate: Gate) -> bool
     let input_horizon = gate.input_horizon;
     let granted = gate.granted;
     let stored = gate.stored_granted;
-    if are_cells(input_horizon, granted) {
+    if are_cells(granted, input_horizon) {
         return acquisition_is_sound(gate.stored_revision, stored);
     }
     false

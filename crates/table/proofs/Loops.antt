@@ -7,10 +7,11 @@ use Prim.Native.Nat.{ℕ, zero, suc, _+_, _-_, _≤_, _<_}
 use native.Mathlib.Nat.{not-suc-le-zero}
 use native.Mathlib.Numerals.{add-one}
 use native.Mathlib.Omega.{arith}
-use borrow.Author.Tests.{not-true, not-false, eq-eqb, ne-eqb}
-use lib.Dec.{T, eqb}
+use borrow.Author.Tests.{not-true, not-false, eq-eqb, ne-eqb, lt-ltb, le-ltb, ltb-false}
+use lib.Dec.{T, eqb, ltb}
 use lib.IntN.{ℤ}
 use lib.ListN.{length, getD, set}
+use lib.Seq.{set-getD}
 use Rattle.tags.specs.Tags.{_≤ₜ_, _<ₜ_, isPresent, isBelow, lesserOf, greaterOf, lesserPresent, greaterPresent, lesserOfBoth}
 use Rattle.tags.proofs.Order.{≤ₜ-trans, ≤ₜ-total, greater-le-left, lesser-left, lesser-right, greater-comm, greater-assoc}
 use Rattle.rules.specs.Model.{Tag, OptionalTag, NoTag, At}
@@ -100,6 +101,30 @@ clear-turn l i h = go l i h ∙ rw add-one refl
     go [] i h = absurd (not-suc-le-zero h)
     go (x ∷ l) zero h = refl
     go (x ∷ l) (suc i) h = ap (λ t. 0 ∷ t) (go l i (omega arith))
+
+-- the first i places within the first n
+abbrev pub within : ℕ → ℕ → ℕ
+within i n = cond (ltb i n) i n
+
+pub within-past : (i n : ℕ) → n ≤ i → within i n ≡ n
+within-past i n h = rw (le-ltb i n h) refl
+
+within-next : (i n : ℕ) → i < n → within (i + 1) n ≡ i + 1
+within-next i n h = go (ltb (i + 1) n) refl
+  where
+    go : (b : Bool) → ltb (i + 1) n ≡ b → cond b (i + 1) n ≡ i + 1
+    go true q = refl
+    go false q = let z = ltb-false (i + 1) n q in omega arith
+
+pub clear-none : (n : ℕ) (l : List ℕ) → l ≡ cleared (within 0 n) l
+clear-none zero l = refl
+clear-none (suc n) l = rw (lt-ltb 0 (suc n) (omega arith)) refl
+
+pub clear-within : (l m : List ℕ) (i n : ℕ) → i < length l → i < n → m ≡ cleared (within i n) l → set m i 0 ≡ cleared (within (i + 1) n) l
+clear-within l m i n h k e = rw (e, lt-ltb i n k, within-next i n k) (clear-turn l i h)
+
+pub clear-past : (l m : List ℕ) (i n : ℕ) → n ≤ i → m ≡ cleared (within i n) l → set m i (getD m i 0) ≡ cleared (within (i + 1) n) l
+clear-past l m i n h e = set-getD m i 0 ∙ e ∙ ap (λ k. cleared k l) (within-past i n h ∙ sym (within-past (i + 1) n (omega arith)))
 
 -- ---- down: the cell in hand means a fold of those present
 

@@ -80,14 +80,16 @@ pub fn all_set(flags: &[bool; 32], count: usize) -> bool
     true
 }
 
+// All cells are walked, which the back end does at once; up to the count it would call a function of the C library.
 fn with_cleared(cells: [u8; 32], count: usize) -> [u8; 32]
     requires { ⌜ count ≤ 32 ⌝ }
     ensures { λ r. ⌜ r ≡ cleared count cells ⌝ }
 {
     let mut left = cells;
     let mut i: usize = 0;
-    while i < count {
-        left[i] = 0;
+    while i < 32 {
+        let cell = left[i];
+        left[i] = if i < count { 0 } else { cell };
         i += 1;
     }
     left

@@ -277,13 +277,9 @@ left-alone c h =
 kept-so : (c : tie.Joined4) → c .if4 .state ≡ At storedEnd c
 kept-so c = either (λ p. p .1) (λ p. p .1 ∙ left-alone c (not-false _ (p .0 .left))) (c .if4 .came)
 
--- the small parts stored, seen from where the observations are
-abbrev parted : tie.Joined5 → tie.Joined4
-parted c = c .before .before .before .before .before .before .before .before .before .before .before .before .before .before .before
-
-observed-so : (c : tie.Joined5) → c .if5 .state ≡ At observedEnd (parted c)
+observed-so : (c : tie.Joined5) → c .if5 .state ≡ At observedEnd (c .before)
 observed-so c =
-    let j = parted c in
+    let j = c .before in
     let a = stepped j in
     let d = done a in
     either
@@ -291,13 +287,18 @@ observed-so c =
     (λ p. p .1 ∙ kept-so j ∙ end-kept (held (there d)) (place (there d)) (stored (own d)) (d .conclude .result) (a .advance-completion .result) (p .0 .left))
     (c .if5 .came)
 
-ended-so : (c : tie.Joined6) → c .if6 .state ≡ At wholeEnd (parted (c .before))
+-- the observations stored, seen from where the gate is
+abbrev watched : tie.Joined6 → tie.Joined5
+watched c = c .before .before .before .before .before .before .before .before .before .before .before .before .before .before .before
+
+ended-so : (c : tie.Joined6) → c .if6 .state ≡ At wholeEnd (watched c .before)
 ended-so c =
-    let a = stepped (parted (c .before)) in
+    let j = watched c in
+    let a = stepped (j .before) in
     let d = done a in
     either
-    (λ p. p .3 ∙ end-dropped (held (there d)) (place (there d)) (stored (own d)) (d .conclude .result) (a .advance-completion .result) (c .before .if5 .state) (observed-so (c .before)) _ (p .2 .ensures) (p .0 .taken))
-    (λ p. p .1 ∙ observed-so (c .before) ∙ end-held (held (there d)) (place (there d)) (stored (own d)) (d .conclude .result) (a .advance-completion .result) (p .0 .left))
+    (λ p. p .3 ∙ end-dropped (held (there d)) (place (there d)) (stored (own d)) (d .conclude .result) (a .advance-completion .result) (j .if5 .state) (observed-so j) _ (p .2 .ensures) (p .0 .taken))
+    (λ p. p .1 ∙ observed-so j ∙ end-held (held (there d)) (place (there d)) (stored (own d)) (d .conclude .result) (a .advance-completion .result) (p .0 .left))
     (c .if6 .came)
 
 -- ---- the needs
@@ -509,13 +510,13 @@ is-about-completion-requires : tie.Need-is-about-completion-requires
 is-about-completion-requires c κs = tt
 
 clear-requires : tie.Need-clear-requires
-clear-requires c κs = few (there (done (stepped (c .before .before .before .before .before .before .before .before .before .before .before .before .before .before .before .before))))
+clear-requires c κs = few (there (done (stepped (c .before .before))))
 
 mul-number : tie.Need-mul-number
-mul-number c = fours (in-begun (near (there (done (stepped c)))))
+mul-number c = fours (in-begun (near (there (done (stepped (c .before))))))
 
 element-copy-out-number : tie.Need-element-copy-out-number
-element-copy-out-number c = near (there (done (stepped c)))
+element-copy-out-number c = near (there (done (stepped (c .before))))
 
 add-said-requires : tie.Need-add-said-requires
 add-said-requires c κs = tt
@@ -523,7 +524,7 @@ add-said-requires c κs = tt
 add-saying-requires : tie.Need-add-saying-requires
 add-saying-requires c κs =
     let o = c .before .before .before .before .before .before .before .before in
-    (o .add-said .ensures .1, few (there (done (stepped (o .before .before .before)))))
+    (o .add-said .ensures .1, few (there (done (stepped (o .before .before .before .before)))))
 
 dropped-requires : tie.Need-dropped-requires
 dropped-requires c κs = tt
@@ -532,18 +533,19 @@ with-reply-requires-4 : tie.Need-with-reply-requires-4
 with-reply-requires-4 c κs = tt
 
 same-length : tie.Need-same-length
-same-length c = let w = c .before .before .before .before .before in w .add-saying .kept .0 ∙ w .before .before .before .before .before .before .before .before .before .add-said .kept .0
+same-length c = let w = c .before .before .before .before in w .add-saying .kept .0 ∙ w .before .before .before .before .before .before .before .before .before .add-said .kept .0
 
 returns-4 : tie.Need-returns-4
 returns-4 c =
     let e = c .before in
-    let j = parted (e .before) in
-    let o = c .before .before .before .before .before .before .before .before .before .before .before .before .before .before in
+    let w = watched e in
+    let j = w .before in
+    let o = c .before .before .before .before .before .before .before .before .before .before .before .before .before in
     let a = stepped j in
     let d = done a in
     ends-0 _ _ _ _ (enters (there d)) (stored (own d)) (neat-so (own d)) (decides-so (own d)) (d .conclude .result) (concludes-at d) (a .advance-completion .result) (advances-at a) _
-    (j .before .before .before .if3 .left) (j .if4 .state) (kept-so j) (e .if6 .state) (ended-so e) _ _ _ _ (o .add-said .ensures .0)
-    (c .before .before .before .before .before .add-saying .ensures) (c .with-reply4 .ensures)
+    (j .before .before .before .if3 .left) (w .if5 .state) (observed-so w) (e .if6 .state) (ended-so e) _ _ _ _ (o .add-said .ensures .0)
+    (c .before .before .before .before .add-saying .ensures) (c .with-reply4 .ensures)
 
 pub handle-scheduler-spec : {M : Type 1} → statement M
 handle-scheduler-spec =
@@ -612,11 +614,11 @@ handle-scheduler-spec =
     with-reply-requires-3
     returns-3
     is-about-completion-requires
+    clear-requires
     mul-number
     element-copy-out-number
     add-said-requires
     add-saying-requires
-    clear-requires
     dropped-requires
     with-reply-requires-4
     same-length
