@@ -166,7 +166,7 @@ const _: () = {
         assert!(SIZES[at].0 == SIZES[at].1);
         at += 1;
     }
-    assert!(size_of::<OpenedNumbers>() == 2_728);
+    assert!(size_of::<OpenedNumbers>() == 2_712);
     assert!(align_of::<CallNumbers>() == 8 && align_of::<OpenedNumbers>() == 8);
     assert!(size_of::<usize>() == 8);
 };
