@@ -1,5 +1,5 @@
 -- `load::busy::play` is safe and ends: the places of a stage count up to the enclaves, and the turns to the last. Assumes nothing.
-use Prim.Native.Nat.{_+_, _*_, _-_, _≤_}
+use Prim.Native.Nat.{_*_, _-_, _≤_}
 use borrow.Author.Needs.{needs}
 use Rattle.load.proofs.busy.play.Statement.{statement}
 use Rattle.load.proofs.busy.play.Tie as tie
