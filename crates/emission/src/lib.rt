@@ -1,10 +1,11 @@
 // The records of a call's actions (document 01, "Only calls write records, from byte 0; later bytes keep their values"): each function adds its actions to
 // those written so far. How many there may be is the caller's to bound; the room is large enough by refusal 8.
 ghost use mathlib.Core.Path.{_≡_};
-ghost use mathlib.Core.List.{[], _∷_};
-ghost use Prim.Native.Nat.{_+_, _≤_};
+ghost use mathlib.Core.List.{[], _∷_, _++_};
+ghost use Prim.Native.Nat.{_+_, _≤_, _<_};
 ghost use mathlib.Core.Bool.{cond};
 ghost use lib.Dec.{eqb};
+ghost use lib.ListN.{getD};
 ghost use Rattle.tags.specs.Tags.{isBelow};
 ghost use Rattle.rules.specs.Model.{AdvanceHorizon, Grant, CompletionProbe};
 ghost use Rattle.state.specs.Cells.{optionalOf};
@@ -181,7 +182,7 @@ fn add_announcement(room: &mut [u8], c: Coordination, resumes: bool, enclave: u3
 }
 
 // The actions of a message's own rule, from byte 0.
-pub fn add_said(room: &mut [u8], said: Said, c: Coordination, enclave: u32) -> usize
+fn add_said(room: &mut [u8], said: Said, c: Coordination, enclave: u32) -> usize
     ensures { λ r. ⌜ Adds (actionsOf enclave said c) (now (room .entry)) 0 (now (room .exit)) r ⌝ }
     ensures few { λ r. ⌜ r ≤ 3 ⌝ }
 {
@@ -193,7 +194,7 @@ pub fn add_said(room: &mut [u8], said: Said, c: Coordination, enclave: u32) -> u
 }
 
 // The actions of the completion step, after those of the own rule.
-pub fn add_saying<'a>(
+fn add_saying<'a>(
     room: &mut [u8],
     written: usize,
     enclaves: &'a [u32; 32],
@@ -224,4 +225,33 @@ pub fn add_saying<'a>(
         ),
         Saying::Completes => add_complete(room, written, frontier, advanced.mark),
     }
+}
+
+// What a scheduler message's step says: the actions of its own rule, then those of the completion step.
+pub fn add_step<'a>(
+    room: &mut [u8],
+    enclaves: &'a [u32; 32],
+    seconds: &'a [i64; 96],
+    nanoseconds: &'a [i32; 96],
+    microsteps: &'a [u64; 96],
+    count: usize,
+    place: usize,
+    said: Said,
+    c: Coordination,
+    advanced: Advanced,
+) -> usize
+    requires { ⌜ (count ≤ 32) × (place < 32) ⌝ }
+    ensures { λ r. ⌜ Adds (actionsOf (getD (now (enclaves .entry)) place 0) said c ++ saidBy (now (enclaves .entry)) (now (seconds .entry)) (now (nanoseconds .entry)) (now (microsteps .entry)) count (advanced .saying) advanced) (now (room .entry)) 0 (now (room .exit)) r ⌝ }
+{
+    let one = add_said(room, said, c, enclaves[place]);
+    add_saying(
+        room,
+        one,
+        enclaves,
+        seconds,
+        nanoseconds,
+        microsteps,
+        count,
+        advanced,
+    )
 }

@@ -8,14 +8,12 @@ use mathlib.Core.Logic.{_⊎_, inl, inr}
 use Prim.Native.Nat.{ℕ, _+_, _*_, _≤_, _<_}
 use native.Mathlib.Omega.{arith}
 use lib.Dec.{T}
-use mir.Syntax.{w32, w64}
-use mir.Val.{ofZ, toZ}
-use lib.IntN.{pos}
+use lib.IntN.{ℤ, pos}
 use lib.ListN.{length, getD}
 use Rattle.tags.specs.Tags.{properIfPresent}
 use Rattle.records.specs.declared.Refusal.the-variants.{Taken, GenerationSpent}
 use Rattle.records.specs.declared.SchedulerMessage.{SchedulerMessage}
-use Rattle.rules.specs.Model.{Tag, CoordinationAction, Silent, Step}
+use Rattle.rules.specs.Model.{CoordinationAction, Silent, Step}
 use Rattle.rules.specs.Calls.{facts, allProper, ownStep, takeStep, isSpent}
 use Rattle.state.specs.declared.FederateCoordinationState.{FederateCoordinationState as Held}
 use Rattle.state.specs.declared.Decided.{Decided}
@@ -42,7 +40,7 @@ use Rattle.dispatch.specs.declared.Concluded.{Concluded}
 use Rattle.dispatch.specs.declared.Flat.{Flat}
 use Rattle.dispatch.specs.Messages.{callOf, enclaveOf, tagOf, flatOf, Names, actionsOf, Concludes}
 use Rattle.emission.specs.Written.{Written, Adds, saidBy}
-use Rattle.emission.proofs.Adding.{none-written, add-then}
+use Rattle.emission.proofs.Adding.{none-written}
 use Rattle.federate.proofs.Message.{is-silent, message-proper, Sits}
 use Rattle.federate.proofs.Scheduler.{ownEnd, wholeEnd, halfway-neat, own-good, spent-is, end-beyond, end-neat, step-is}
 use Rattle.federate.proofs.Refusing.{out-spent, open-call}
@@ -55,38 +53,41 @@ pub record Enters (room : List ℕ) (m : SchedulerMessage) (s : Held) (i : ℕ) 
   pub proper : properIfPresent (tagOf m) ≡ true
   pub place : Sits (enclaveOf m) s i
 
--- ---- the cells as the code stores them: a signed number through its bits
-
-abbrev toldTag : Tag → Tag
-toldTag t = record { seconds = toZ w64 (ofZ w64 (t .seconds)); nanoseconds = toZ w32 (ofZ w32 (t .nanoseconds)); microstep = t .microstep }
-
--- the number is the one that the bits give back
-abbrev pub Told : Tag → Type 0
-Told t = (toZ w64 (ofZ w64 (t .seconds)) ≡ t .seconds) × (toZ w32 (ofZ w32 (t .nanoseconds)) ≡ t .nanoseconds)
-
-told-tag : (t : Tag) → Told t → toldTag t ≡ t
-told-tag t h = rw (h .0, h .1) refl
-
-abbrev pub toldRow : Row → Row
-toldRow w = record { published = w .published; candidate = toldTag (w .candidate); completed = toldTag (w .completed); acknowledged = w .acknowledged; «completion_observed» = w .«completion_observed» }
-
-pub told-row : (w : Row) → Told (w .candidate) → Told (w .completed) → toldRow w ≡ w
-told-row w p q = rw (told-tag (w .candidate) p, told-tag (w .completed) q) refl
-
-abbrev pub told : Decided → Decided
-told d = record {
-  parts = record { row = toldRow (d .parts .row); coordination = d .parts .coordination; completion = d .parts .completion; failed = d .parts .failed; «first_failure» = d .parts .«first_failure» };
-  forgets = d .forgets;
-  next = d .next;
-}
-
-pub told-decided : (d : Decided) → Told (d .parts .row .candidate) → Told (d .parts .row .completed) → told d ≡ d
-told-decided d p q = rw (told-row (d .parts .row) p q) refl
-
 -- ---- the cells put back
 
 abbrev pub withRow : Held → ℕ → Row → Held
 withRow s i w = rebuilt s i (record { row = w; coordination = s .coordination; completion = s .completion; failed = s .failed; «first_failure» = s .«first_failure» }) (s .observation) (s .gate)
+
+-- the columns of tags as they were handed back, and that they are those of the state
+abbrev pub withColumns : List ℤ → List ℤ → List ℕ → Held → Held
+withColumns ss ns ms s = record {
+  count = s .count;
+  enclaves = s .enclaves;
+  published = s .published;
+  observation = s .observation;
+  acknowledged = s .acknowledged;
+  «completion_observed» = s .«completion_observed»;
+  seconds = ss;
+  nanoseconds = ns;
+  microsteps = ms;
+  coordination = s .coordination;
+  completion = s .completion;
+  gate = s .gate;
+  «grant_horizon» = s .«grant_horizon»;
+  failed = s .failed;
+  lifecycle = s .lifecycle;
+  «first_failure» = s .«first_failure»;
+}
+
+pub columns-are : (s : Held) {ss ns : List ℤ} {ms : List ℕ} → ss ≡ s .seconds → ns ≡ s .nanoseconds → ms ≡ s .microsteps → withColumns ss ns ms s ≡ s
+columns-are s a b c = rw (a, b, c) refl
+
+-- the row w put over x
+pub put-over : (s : Held) (i : ℕ) (x w : Row) {ss ns ss′ ns′ : List ℤ} {ms ms′ : List ℕ}
+    → ss ≡ withRow s i x .seconds → ns ≡ withRow s i x .nanoseconds → ms ≡ withRow s i x .microsteps
+    → let u = withRow (withColumns ss ns ms (withRow s i x)) i w in ss′ ≡ u .seconds → ns′ ≡ u .nanoseconds → ms′ ≡ u .microsteps
+    → withColumns ss′ ns′ ms′ u ≡ withRow (withRow s i x) i w
+put-over s i x w a b c d e f = columns-are _ d e f ∙ ap (λ (u : Held). withRow u i w) (columns-are (withRow s i x) a b c)
 
 undone : (s : Held) (i : ℕ) (x w : Row) → Sized s → i < 32 → w ≡ rowOf s i → withRow (withRow s i x) i w ≡ s
 undone s i x w z h q =
@@ -214,17 +215,16 @@ module _ (room : List ℕ) (m : SchedulerMessage) (s : Held) (i : ℕ) (n : Ente
         spent : (facts (callOf m) .message && isSpent (ownStep (callOf m) (view s) .state)) ≡ a .spent
         spent = spent-is s m i d k good (n .place) (is-so (n .proper)) decides neat concludes a advances
 
-        pub ends-9 : a .spent ≡ true → (x w : Row) → w ≡ rowOf s i → r ≡ replied (withRow (withRow s i x) i w) GenerationSpent Silent 0
+        pub ends-9 : a .spent ≡ true → (x w : Row) → w ≡ rowOf s i → (t : Held) → t ≡ withRow (withRow s i x) i w → r ≡ replied t GenerationSpent Silent 0
             → Ends (lent (length room) (callOf m)) s r room room
-        ends-9 h x w row q =
-            out-spent room m s (n .stands) (n .wide) (n .proper) i (n .place) spent (withRow (withRow s i x) i w) h
-            (undone s i x w (good .sized) (let z = n .stands .few in let y = within in omega arith) row) q
+        ends-9 h x w row t p q =
+            out-spent room m s (n .stands) (n .wide) (n .proper) i (n .place) spent t h
+            (p ∙ undone s i x w (good .sized) (let z = n .stands .few in let y = within in omega arith) row) q
 
-        ends-so : a .spent ≡ false → (room₁ room₂ : List ℕ) (one two : ℕ)
-            → Adds (actionsOf (getD (s .enclaves) i 0) (k .said) (k .coordination)) room 0 room₁ one
-            → Adds (saidBy (s .enclaves) (halfway s i d .seconds) (halfway s i d .nanoseconds) (halfway s i d .microsteps) (s .count) (a .saying) a) room₁ one room₂ two
-            → r ≡ replied (wholeEnd s i d k a) Taken Silent two → Ends (lent (length room) (callOf m)) s r room room₂
-        ends-so free room₁ room₂ one two own after q =
+        ends-so : a .spent ≡ false → (room₁ : List ℕ) (total : ℕ)
+            → Adds (actionsOf (getD (s .enclaves) i 0) (k .said) (k .coordination) ++ saidBy (s .enclaves) (halfway s i d .seconds) (halfway s i d .nanoseconds) (halfway s i d .microsteps) (s .count) (a .saying) a) room 0 room₁ total
+            → r ≡ replied (wholeEnd s i d k a) Taken Silent total → Ends (lent (length room) (callOf m)) s r room room₁
+        ends-so free room₁ total adds q =
             ends-taken (lent (length room) (callOf m)) s room (is-silent m (view s)) (n .stands) unrefused (wholeEnd s i d k a) (said ++ later)
             (end-beyond s m i d k good (n .place) (is-so (n .proper)) decides neat concludes a advances)
             (end-neat s m i d k good (n .place) (is-so (n .proper)) decides neat concludes a advances) step (written .number) (written .bytes) q
@@ -246,18 +246,16 @@ module _ (room : List ℕ) (m : SchedulerMessage) (s : Held) (i : ℕ) (n : Ente
                 subst (λ (o : Step). 56 * length (o .actions) ≤ 56 * (s .count + 2)) step
                 (actions-fit (lent (length room) (callOf m)) s (n .stands .passing) unrefused)
 
-            written : Written room (said ++ later) room₂ two
+            written : Written room (said ++ later) room₁ total
             written =
-                add-then said later room room₁ room₂ 0 one two own (subst (λ (l : List CoordinationAction). Adds l room₁ one room₂ two) (said-by (ownEnd s i d k) (a .saying) a) after)
-                room [] (none-written room) (let z = fits in let y = n .wide in omega arith)
+                subst (λ (l : List CoordinationAction). Adds (said ++ l) room 0 room₁ total) (said-by (ownEnd s i d k) (a .saying) a) adds room [] (none-written room)
+                (let z = fits in let y = n .wide in omega arith)
 
         -- whatever the state is called that was stored before the records were written, and the one handed back
-        pub ends-0 : a .spent ≡ false → (u : Held) → u ≡ observedEnd s i d k a → (t : Held) → t ≡ wholeEnd s i d k a → (room₁ room₂ : List ℕ) (one two : ℕ)
-            → Adds (actionsOf (getD (u .enclaves) i 0) (k .said) (k .coordination)) room 0 room₁ one
-            → Adds (saidBy (u .enclaves) (u .seconds) (u .nanoseconds) (u .microsteps) (s .count) (a .saying) a) room₁ one room₂ two
-            → r ≡ replied t Taken Silent two → Ends (lent (length room) (callOf m)) s r room room₂
-        ends-0 free u y t z room₁ room₂ one two own after q =
-            ends-so free room₁ room₂ one two
-            (subst (λ (x : Held). Adds (actionsOf (getD (x .enclaves) i 0) (k .said) (k .coordination)) room 0 room₁ one) y own)
-            (subst (λ (x : Held). Adds (saidBy (x .enclaves) (x .seconds) (x .nanoseconds) (x .microsteps) (s .count) (a .saying) a) room₁ one room₂ two) y after)
-            (q ∙ ap (λ (x : Held). replied x Taken Silent two) z)
+        pub ends-0 : a .spent ≡ false → (u : Held) → u ≡ observedEnd s i d k a → (t : Held) → t ≡ wholeEnd s i d k a → (room₁ : List ℕ) (total : ℕ)
+            → Adds (actionsOf (getD (u .enclaves) i 0) (k .said) (k .coordination) ++ saidBy (u .enclaves) (u .seconds) (u .nanoseconds) (u .microsteps) (s .count) (a .saying) a) room 0 room₁ total
+            → r ≡ replied t Taken Silent total → Ends (lent (length room) (callOf m)) s r room room₁
+        ends-0 free u y t z room₁ total adds q =
+            ends-so free room₁ total
+            (subst (λ (x : Held). Adds (actionsOf (getD (x .enclaves) i 0) (k .said) (k .coordination) ++ saidBy (x .enclaves) (x .seconds) (x .nanoseconds) (x .microsteps) (s .count) (a .saying) a) room 0 room₁ total) y adds)
+            (q ∙ ap (λ (x : Held). replied x Taken Silent total) z)

@@ -14,7 +14,6 @@ use records::Answer;
 use records::OptionalEnclave;
 use records::Refusal;
 use records::SchedulerMessage;
-use state::COMPLETED;
 use state::FederateCoordinationState;
 use state::Parts;
 
@@ -40,41 +39,35 @@ pub fn handle_scheduler(
     ensures bytes { λ r. ⌜ now (room .exit) ≡ putAt (now (room .entry)) 0 (recordsOf (actionsOf (lent (length (now (room .entry))) (callOf message)) state)) ⌝ }
 {
     let count = state.count;
-    let coordination = state.coordination;
-    let completion = state.completion;
-    let gate = state.gate;
-    let horizon = state.grant_horizon;
-    let lifecycle = state.lifecycle;
     // The small parts are tested where they are at hand, since a test that takes them by value costs their copies.
-    let next_event = coordination.pending_next_event;
-    let pending_horizon = coordination.pending_grant_horizon;
-    let frontier = completion.completed_frontier;
-    let probe = completion.completion_probe;
-    let first_input = completion.first_input;
-    let last_input = completion.last_input;
-    let input_horizon = gate.input_horizon;
-    let granted = gate.granted;
-    let stored = gate.stored_granted;
     let both = soundness::all_hold(
         soundness::flags_are_sound(
-            coordination.phase,
-            coordination.authorized,
-            coordination.idle_authorization,
+            state.coordination.phase,
+            state.coordination.authorized,
+            state.coordination.idle_authorization,
         ),
         soundness::publication_is_sound(
-            coordination.pending,
-            coordination.pending_revision,
-            next_event,
-            pending_horizon,
+            state.coordination.pending,
+            state.coordination.pending_revision,
+            state.coordination.pending_next_event,
+            state.coordination.pending_grant_horizon,
         ),
-        soundness::are_cells(frontier, probe),
-        soundness::inputs_are_sound(first_input, last_input),
+        soundness::are_cells(
+            state.completion.completed_frontier,
+            state.completion.completion_probe,
+        ),
+        soundness::inputs_are_sound(state.completion.first_input, state.completion.last_input),
     );
     let small = soundness::all_hold(
         both,
-        soundness::are_cells(granted, input_horizon),
-        soundness::acquisition_is_sound(gate.stored_revision, stored),
-        soundness::rest_is_sound(horizon, state.failed, state.first_failure, lifecycle),
+        soundness::are_cells(state.gate.granted, state.gate.input_horizon),
+        soundness::acquisition_is_sound(state.gate.stored_revision, state.gate.stored_granted),
+        soundness::rest_is_sound(
+            state.grant_horizon,
+            state.failed,
+            state.first_failure,
+            state.lifecycle,
+        ),
     );
     if !soundness::is_sound_with(
         &state.enclaves,
@@ -91,8 +84,8 @@ pub fn handle_scheduler(
     }
     let flat = dispatch::flat_of(message);
     let tag = flat.tag;
-    let enclave = flat.enclave;
     let proper = tags::proper_if_present(tag);
+    let enclave = flat.enclave;
     let place = place_of(&state.enclaves, count, enclave);
     if !calls::is_open(room.len(), count, proper, place < count) {
         let refusal = calls::room_first(room.len(), count, calls::tag_first(proper, place < count));
@@ -107,9 +100,9 @@ pub fn handle_scheduler(
         &state.microsteps,
         place,
     );
-    let held_coordination = state::coordination_by_fields(coordination);
-    let held_completion = state::completion_by_fields(completion);
-    let held_horizon = state::tag_by_fields(horizon);
+    let held_coordination = state::coordination_by_fields(state.coordination);
+    let held_completion = state::completion_by_fields(state.completion);
+    let held_horizon = state::tag_by_fields(state.grant_horizon);
     let parts = Parts {
         row,
         coordination: held_coordination,
@@ -118,27 +111,13 @@ pub fn handle_scheduler(
         first_failure: state.first_failure,
     };
     let decided = dispatch::own_step(flat, parts);
-    let own = decided.parts;
-    let cells = own.row;
-    let candidate = cells.candidate;
-    let completed = cells.completed;
-    state.published[place] = cells.published;
-    state.acknowledged[place] = cells.acknowledged;
-    state.completion_observed[place] = cells.completion_observed;
-    let candidate_seconds = candidate.seconds;
-    state.seconds[place] = candidate_seconds;
-    let candidate_nanoseconds = candidate.nanoseconds;
-    state.nanoseconds[place] = candidate_nanoseconds;
-    state.microsteps[place] = candidate.microstep;
-    let at = COMPLETED + place;
-    let completed_seconds = completed.seconds;
-    state.seconds[at] = completed_seconds;
-    let completed_nanoseconds = completed.nanoseconds;
-    state.nanoseconds[at] = completed_nanoseconds;
-    state.microsteps[at] = completed.microstep;
+    state.completion_observed[place] = decided.parts.row.completion_observed;
+    state.acknowledged[place] = decided.parts.row.acknowledged;
+    state.published[place] = decided.parts.row.published;
+    table::put_microsteps(&mut state.microsteps, place, decided.parts.row);
+    table::put_seconds(&mut state.seconds, place, decided.parts.row);
+    table::put_nanoseconds(&mut state.nanoseconds, place, decided.parts.row);
     let next = decided.next;
-    let own_coordination = own.coordination;
-    let own_completion = own.completion;
     let concluded = dispatch::conclude(
         &state.published,
         &state.seconds,
@@ -146,13 +125,11 @@ pub fn handle_scheduler(
         &state.microsteps,
         count,
         next,
-        own_coordination,
-        own_completion,
+        decided.parts.coordination,
+        decided.parts.completion,
         held_horizon,
-        lifecycle,
+        state.lifecycle,
     );
-    let next_coordination = concluded.coordination;
-    let next_completion = concluded.completion;
     let advanced = completion::advance_completion(
         &state.published,
         &state.acknowledged,
@@ -161,51 +138,42 @@ pub fn handle_scheduler(
         &state.nanoseconds,
         &state.microsteps,
         count,
-        next_coordination.phase,
+        concluded.coordination.phase,
         held_horizon,
-        next_completion,
+        concluded.completion,
     );
     if advanced.spent {
-        let old_candidate = row.candidate;
-        let old_completed = row.completed;
+        table::put_microsteps(&mut state.microsteps, place, row);
         state.published[place] = row.published;
-        state.acknowledged[place] = row.acknowledged;
+        table::put_seconds(&mut state.seconds, place, row);
+        table::put_nanoseconds(&mut state.nanoseconds, place, row);
         state.completion_observed[place] = row.completion_observed;
-        let old_candidate_seconds = old_candidate.seconds;
-        state.seconds[place] = old_candidate_seconds;
-        let old_candidate_nanoseconds = old_candidate.nanoseconds;
-        state.nanoseconds[place] = old_candidate_nanoseconds;
-        state.microsteps[place] = old_candidate.microstep;
-        let old_completed_seconds = old_completed.seconds;
-        state.seconds[at] = old_completed_seconds;
-        let old_completed_nanoseconds = old_completed.nanoseconds;
-        state.nanoseconds[at] = old_completed_nanoseconds;
-        state.microsteps[at] = old_completed.microstep;
+        state.acknowledged[place] = row.acknowledged;
         return calls::with_reply(state, Refusal::GenerationSpent, Answer::Silent, 0);
     }
-    let forgets = decided.forgets;
     let last_completion = advanced.completion;
-    let said = concluded.said;
     state.completion = last_completion;
     // What stays as it is is not stored: a message about completion changes no more.
     if !dispatch::is_about_completion(flat.kind) {
+        let next_coordination = concluded.coordination;
         state.coordination = next_coordination;
-        state.failed = own.failed;
-        state.first_failure = own.first_failure;
+        state.failed = decided.parts.failed;
+        state.first_failure = decided.parts.first_failure;
     }
-    if forgets {
+    if decided.forgets {
         table::clear(&mut state.observation, count);
     }
-    let number = state.enclaves[place];
-    let one = emission::add_said(room, said, next_coordination, number);
-    let total = emission::add_saying(
+    let said = concluded.said;
+    let total = emission::add_step(
         room,
-        one,
         &state.enclaves,
         &state.seconds,
         &state.nanoseconds,
         &state.microsteps,
         count,
+        place,
+        said,
+        concluded.coordination,
         advanced,
     );
     // Touched seldom, so last, when no other number is kept at hand.

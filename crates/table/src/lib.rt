@@ -4,7 +4,7 @@ ghost use mathlib.Core.Path.{_≡_};
 ghost use mathlib.Core.Bool.{false, cond, not, _||_};
 ghost use Prim.Native.Nat.{_+_, _≤_, _<_};
 ghost use lib.Dec.{eqb};
-ghost use lib.ListN.{getD};
+ghost use lib.ListN.{getD, set};
 ghost use Rattle.tags.specs.Tags.{isPresent, lesserOf, greaterOf, lesserOfBoth, isBelow, atOrBelow};
 ghost use Rattle.rules.specs.Model.{NoTag};
 ghost use Rattle.rules.specs.Walk.{isNumber};
@@ -196,6 +196,37 @@ pub fn row_at<'a>(
         acknowledged: acknowledged[place],
         completion_observed: completion_observed[place],
     }
+}
+
+// Each of the three columns of tags has a row's candidate at its place and its completed tag at the second one.
+pub fn put_seconds(seconds: &mut [i64; 96], place: usize, row: Row)
+    requires { ⌜ place < 32 ⌝ }
+    ensures { λ _. ⌜ now (seconds .exit) ≡ set (set (now (seconds .entry)) place (row .candidate .seconds)) (32 + place) (row .completed .seconds) ⌝ }
+{
+    let candidate = row.candidate.seconds;
+    let completed = row.completed.seconds;
+    seconds[place] = candidate;
+    seconds[COMPLETED + place] = completed;
+}
+
+pub fn put_nanoseconds(nanoseconds: &mut [i32; 96], place: usize, row: Row)
+    requires { ⌜ place < 32 ⌝ }
+    ensures { λ _. ⌜ now (nanoseconds .exit) ≡ set (set (now (nanoseconds .entry)) place (row .candidate .nanoseconds)) (32 + place) (row .completed .nanoseconds) ⌝ }
+{
+    let candidate = row.candidate.nanoseconds;
+    let completed = row.completed.nanoseconds;
+    nanoseconds[place] = candidate;
+    nanoseconds[COMPLETED + place] = completed;
+}
+
+pub fn put_microsteps(microsteps: &mut [u64; 96], place: usize, row: Row)
+    requires { ⌜ place < 32 ⌝ }
+    ensures { λ _. ⌜ now (microsteps .exit) ≡ set (set (now (microsteps .entry)) place (row .candidate .microstep)) (32 + place) (row .completed .microstep) ⌝ }
+{
+    let candidate = row.candidate.microstep;
+    let completed = row.completed.microstep;
+    microsteps[place] = candidate;
+    microsteps[COMPLETED + place] = completed;
 }
 
 // How the participants that lag behind a new frontier stand to it.

@@ -1,6 +1,6 @@
 -- `federate::handle_scheduler` meets its promise: 27, 8, 7 and 3 first; then the own rule's first half is decided and stored, its second half concluded, the
 -- completion step taken; 9 puts the enclave's cells back, and else the records of what was said stand in the room. Assumes nothing.
-use mathlib.Core.Path.{_≡_, refl, sym, ap, _∙_, subst}
+use mathlib.Core.Path.{_≡_, refl, sym, ap, _∙_}
 use mathlib.Core.Bool.{true, _&&_}
 use Prim.Native.Nat.{ℕ, _+_, _*_, _≤_, _<_}
 use native.Mathlib.Omega.{arith}
@@ -30,34 +30,32 @@ use Rattle.federate.specs.Places.{placeOf}
 use Rattle.federate.proofs.Message.{takes-room, is-silent, message-proper, sits}
 use Rattle.federate.proofs.Scheduler.{ownEnd, wholeEnd}
 use Rattle.federate.proofs.Refusing.{known-is}
-use Rattle.federate.proofs.Taking.{Enters, either, storedEnd, observedEnd, end-aside, end-cleared, end-kept, end-dropped, end-held, told, told-decided, toldRow, told-row, withRow, decides, neat, halfway-holds, own-holds, ends-9, ends-0}
+use Rattle.federate.proofs.Taking.{Enters, either, storedEnd, observedEnd, end-aside, end-cleared, end-kept, end-dropped, end-held, columns-are, put-over, withRow, decides, neat, halfway-holds, own-holds, ends-9, ends-0}
 use Rattle.federate.proofs.handle_scheduler.Statement.{statement}
 use Rattle.federate.proofs.handle_scheduler.Tie as tie
 
 -- ---- what is known along the way
 
--- the tests of the small parts, seen from the test of the columns, and the first of them
+-- the tests of the small parts, seen from the test of the columns
 abbrev small : tie.After-is-sound-with → tie.After-all-hold2
 small c = c .before .before .before .before .before .before .before .before .before
 
-abbrev flagged : tie.After-all-hold2 → tie.After-flags-are-sound
-flagged c = c .before .before .before .before .before .before .before .before
-
 -- the call's entry, seen from where 27 is asked
 abbrev entry : tie.After-is-sound-with → tie.Start
-entry c = flagged (small c) .before .before .before .before .before .before .before .before .before .before .before .before .before .before .before
+entry c = small c .before .before .before .before .before .before .before .before .before .before .before .before .before .before .before .before .before .before .before .before
 
 sound-is : (c : tie.After-is-sound-with) → c .is-sound-with .result ≡ (represents (entry c .args .t1) && isSound (view (entry c .args .t1)))
 sound-is c =
     let s = entry c .args .t1 in
     let rest = small c .before in
-    let acquisition = rest .before in
-    let horizons = acquisition .before in
-    let both = horizons .before in
+    let acquisition = rest .before .before in
+    let horizons = acquisition .before .before in
+    let both = horizons .before .before .before in
     let inputs = both .before in
-    let frontiers = inputs .before in
-    let publication = frontiers .before in
-    sound-by-leaves s (publication .before .flags-are-sound .ensures) (publication .publication-is-sound .ensures) (frontiers .are-cells .ensures)
+    let frontiers = inputs .before .before .before in
+    let publication = frontiers .before .before .before in
+    let flags = publication .before .before .before in
+    sound-by-leaves s (flags .flags-are-sound .ensures) (publication .publication-is-sound .ensures) (frontiers .are-cells .ensures)
     (inputs .inputs-are-sound .ensures) (both .all-hold .ensures) (horizons .are-cells2 .ensures) (acquisition .acquisition-is-sound .ensures)
     (rest .rest-is-sound .ensures) (small c .all-hold2 .ensures) (c .is-sound-with .ensures s)
 
@@ -150,20 +148,8 @@ near c = in-table (seated c) (few c)
     in-table : {i n : ℕ} → i < n → n ≤ 32 → i < 32
     in-table l m = omega arith
 
-in-begun : {i : ℕ} → i < 32 → i < 96
-in-begun l = omega arith
-
-in-second : {i : ℕ} → i < 32 → 32 + i < 96
-in-second l = omega arith
-
-eights : {i : ℕ} → i < 96 → Fits w64 (i * 8)
+eights : {i : ℕ} → i < 32 → Fits w64 (i * 8)
 eights l = search needs
-
-fours : {i : ℕ} → i < 96 → Fits w64 (i * 4)
-fours l = search needs
-
-offset : {i : ℕ} → i < 32 → Fits w64 (32 + i)
-offset l = search needs
 
 -- ---- the two halves
 
@@ -172,7 +158,7 @@ abbrev fields : tie.After-own-step → tie.After-tag-by-fields
 fields c = c .before
 
 abbrev rowed : tie.After-own-step → tie.After-row-at
-rowed c = fields c .before .before .before
+rowed c = fields c .before .before .before .before .before .before
 
 abbrev home : tie.After-own-step → tie.Else2
 home c = rowed c .before .before .before .before .before .before .before .before
@@ -186,11 +172,11 @@ row-is c = rowed c .row-at .ensures
 horizon-is : (c : tie.After-own-step) → fields c .tag-by-fields .result ≡ held (home c) .«grant_horizon»
 horizon-is c = fields c .tag-by-fields .ensures
 
-completion-is : (c : tie.After-own-step) → fields c .before .completion-by-fields .result ≡ held (home c) .completion
-completion-is c = fields c .before .completion-by-fields .ensures
+completion-is : (c : tie.After-own-step) → fields c .before .before .completion-by-fields .result ≡ held (home c) .completion
+completion-is c = fields c .before .before .completion-by-fields .ensures
 
-coordination-is : (c : tie.After-own-step) → fields c .before .before .coordination-by-fields .result ≡ held (home c) .coordination
-coordination-is c = fields c .before .before .coordination-by-fields .ensures
+coordination-is : (c : tie.After-own-step) → fields c .before .before .before .before .coordination-by-fields .result ≡ held (home c) .coordination
+coordination-is c = fields c .before .before .before .before .coordination-by-fields .ensures
 
 flat-is : (c : tie.After-own-step) → seat (home c) .before .before .before .before .flat-of .result ≡ flatOf (start (seat (home c)) .args .message)
 flat-is c = seat (home c) .before .before .before .before .flat-of .ensures
@@ -204,52 +190,45 @@ neat-at : (c : tie.After-own-step) → T (neatParts (c .own-step .result .parts)
 neat-at c =
     neat _ _ _ _ (enters (home c)) _ (flat-is c) _ (row-is c) _ (coordination-is c) _ (completion-is c) (c .own-step .result) (c .own-step .ensures .0) (c .own-step .ensures .1 .0)
 
--- what the first half decided, as the columns have it
-abbrev begun : tie.After-struct-told4 → tie.After-own-step
-begun c = c .before .before .before .before .before .before .before .before
+-- the first half, seen from where its cells are stored
+abbrev begun : tie.After-put-nanoseconds → tie.After-own-step
+begun c = c .before .before .before .before .before .before
 
-abbrev stored : tie.After-struct-told4 → Decided
-stored c = told (begun c .own-step .result)
+abbrev own : tie.After-conclude → tie.After-put-nanoseconds
+own c = c .before .before .before .before .before .before
 
-stored-is : (c : tie.After-struct-told4) → stored c ≡ begun c .own-step .result
-stored-is c =
-    told-decided (begun c .own-step .result) (search (needs, c .before .before .before .struct-told .given), search (needs, c .before .before .struct-told2 .given))
-    (search (needs, c .before .struct-told3 .given), search (needs, c .struct-told4 .given))
-
-decides-so : (c : tie.After-struct-told4)
-    → Decides (ownStep (callOf (start (seat (home (begun c))) .args .message))) (index (begun c)) (partsOf (held (home (begun c))) (place (home (begun c)))) (stored c)
-decides-so c =
-    subst (λ (d : Decided). Decides (ownStep (callOf (start (seat (home (begun c))) .args .message))) (index (begun c)) (partsOf (held (home (begun c))) (place (home (begun c)))) d)
-    (sym (stored-is c)) (decides-at (begun c))
-
-neat-so : (c : tie.After-struct-told4) → T (neatParts (stored c .parts))
-neat-so c = subst (λ (d : Decided). T (neatParts (d .parts))) (sym (stored-is c)) (neat-at (begun c))
-
-abbrev own : tie.After-conclude → tie.After-struct-told4
-own c = c .before .before .before .before .before .before .before .before
+abbrev first-half : tie.After-conclude → tie.After-own-step
+first-half c = begun (own c)
 
 abbrev there : tie.After-conclude → tie.Else2
-there c = home (begun (own c))
+there c = home (first-half c)
 
+abbrev decided : tie.After-conclude → Decided
+decided c = first-half c .own-step .result
+
+-- the state between
 abbrev between : tie.After-conclude → Held
-between c = halfway (held (there c)) (place (there c)) (stored (own c))
+between c = halfway (held (there c)) (place (there c)) (decided c)
 
-concludes-at : (c : tie.After-conclude) → Concludes (between c) (index (begun (own c))) (stored (own c) .next) (c .conclude .result)
+concludes-at : (c : tie.After-conclude) → Concludes (between c) (index (first-half c)) (decided c .next) (c .conclude .result)
 concludes-at c =
-    c .conclude .ensures .0 (between c) (index (begun (own c))) (halfway-holds _ _ _ _ (enters (there c)) (stored (own c)) (neat-so (own c)))
-    (record { published = refl; seconds = refl; nanoseconds = refl; microsteps = refl; count = refl; coordination = refl; completion = refl; horizon = sym (horizon-is (begun (own c))); lifecycle = refl })
+    let n = own c in
+    c .conclude .ensures .0 (between c) (index (first-half c)) (halfway-holds _ _ _ _ (enters (there c)) (decided c) (neat-at (first-half c)))
+    (record { published = refl; seconds = sym (n .before .before .put-seconds .ensures); nanoseconds = sym (n .put-nanoseconds .ensures); microsteps = sym (n .before .before .before .before .put-microsteps .ensures); count = refl; coordination = refl; completion = refl; horizon = sym (horizon-is (first-half c)); lifecycle = refl })
 
 abbrev done : tie.After-advance-completion → tie.After-conclude
-done c = c .before .before .before .before .before .before .before .before .before .before
+done c = c .before .before .before .before .before .before .before .before
 
 abbrev after : tie.After-advance-completion → Held
-after c = ownEnd (held (there (done c))) (place (there (done c))) (stored (own (done c))) (done c .conclude .result)
+after c = ownEnd (held (there (done c))) (place (there (done c))) (decided (done c)) (done c .conclude .result)
 
 advances-at : (c : tie.After-advance-completion) → Advances (after c) (c .advance-completion .result)
 advances-at c =
-    let o = own (done c) in
-    c .advance-completion .ensures (after c) (own-holds _ _ _ _ (enters (there (done c))) (stored o) (neat-so o) (decides-so o) (done c .conclude .result) (concludes-at (done c)))
-    (record { published = refl; acknowledged = refl; observed = refl; seconds = refl; nanoseconds = refl; microsteps = refl; count = refl; phase = refl; horizon = sym (horizon-is (begun o)); completion = refl })
+    let d = done c in
+    let n = own d in
+    let o = first-half d in
+    c .advance-completion .ensures (after c) (own-holds _ _ _ _ (enters (there d)) (decided d) (neat-at o) (decides-at o) (d .conclude .result) (concludes-at d))
+    (record { published = refl; acknowledged = refl; observed = refl; seconds = sym (n .before .before .put-seconds .ensures); nanoseconds = sym (n .put-nanoseconds .ensures); microsteps = sym (n .before .before .before .before .put-microsteps .ensures); count = refl; phase = refl; horizon = sym (horizon-is o); completion = refl })
 
 -- the completion step, seen from where the small parts are stored
 abbrev stepped : tie.Joined4 → tie.After-advance-completion
@@ -259,23 +238,32 @@ stepped c = c .before .before .before .before
 abbrev At : (Held → ℕ → Decided → Concluded → Advanced → Held) → tie.Joined4 → Held
 At end c =
     let a = stepped c in
-    end (held (there (done a))) (place (there (done a))) (stored (own (done a))) (done a .conclude .result) (a .advance-completion .result)
+    end (held (there (done a))) (place (there (done a))) (decided (done a)) (done a .conclude .result) (a .advance-completion .result)
 
 -- a message about completion left the rest alone
 left-alone : (c : tie.Joined4) → c .before .is-about-completion .result ≡ true
-    → withCompletion (stepped c .advance-completion .result .completion) (withRow (held (there (done (stepped c)))) (place (there (done (stepped c)))) (stored (own (done (stepped c))) .parts .row))
+    → withCompletion (stepped c .advance-completion .result .completion) (withRow (held (there (done (stepped c)))) (place (there (done (stepped c)))) (decided (done (stepped c)) .parts .row))
     ≡ At storedEnd c
 left-alone c h =
     let a = stepped c in
     let d = done a in
-    let o = begun (own d) in
+    let o = first-half d in
     let x = o .own-step .ensures .1 .1 (is-so (sym (c .before .is-about-completion .ensures) ∙ h)) in
     let y = d .conclude .ensures .1 (x .unannounced) in
-    end-aside (held (there d)) (place (there d)) (stored (own d)) (d .conclude .result) (a .advance-completion .result)
+    end-aside (held (there d)) (place (there d)) (decided d) (d .conclude .result) (a .advance-completion .result)
     (y .0 ∙ x .coordination ∙ coordination-is o) (x .failed) (x .failure)
 
 kept-so : (c : tie.Joined4) → c .if4 .state ≡ At storedEnd c
-kept-so c = either (λ p. p .1) (λ p. p .1 ∙ left-alone c (not-false _ (p .0 .left))) (c .if4 .came)
+kept-so c =
+    let a = stepped c in
+    let d = done a in
+    let n = own d in
+    let ss = n .before .before .put-seconds .ensures in
+    let ns = n .put-nanoseconds .ensures in
+    let ms = n .before .before .before .before .put-microsteps .ensures in
+    either (λ p. p .2 ∙ columns-are (At storedEnd c) ss ns ms)
+    (λ p. p .1 ∙ columns-are (withCompletion (a .advance-completion .result .completion) (withRow (held (there d)) (place (there d)) (decided d .parts .row))) ss ns ms
+    ∙ left-alone c (not-false _ (p .0 .left))) (c .if4 .came)
 
 observed-so : (c : tie.Joined5) → c .if5 .state ≡ At observedEnd (c .before)
 observed-so c =
@@ -283,13 +271,13 @@ observed-so c =
     let a = stepped j in
     let d = done a in
     either
-    (λ p. p .3 ∙ end-cleared (held (there d)) (place (there d)) (stored (own d)) (d .conclude .result) (a .advance-completion .result) (j .if4 .state) (kept-so j) _ (p .2 .ensures) (p .0 .taken))
-    (λ p. p .1 ∙ kept-so j ∙ end-kept (held (there d)) (place (there d)) (stored (own d)) (d .conclude .result) (a .advance-completion .result) (p .0 .left))
+    (λ p. p .3 ∙ end-cleared (held (there d)) (place (there d)) (decided d) (d .conclude .result) (a .advance-completion .result) (j .if4 .state) (kept-so j) _ (p .2 .ensures) (p .0 .taken))
+    (λ p. p .1 ∙ kept-so j ∙ end-kept (held (there d)) (place (there d)) (decided d) (d .conclude .result) (a .advance-completion .result) (p .0 .left))
     (c .if5 .came)
 
 -- the observations stored, seen from where the gate is
 abbrev watched : tie.Joined6 → tie.Joined5
-watched c = c .before .before .before .before .before .before .before .before .before .before .before .before .before .before .before
+watched c = c .before .before .before .before .before .before .before .before .before .before
 
 ended-so : (c : tie.Joined6) → c .if6 .state ≡ At wholeEnd (watched c .before)
 ended-so c =
@@ -297,8 +285,8 @@ ended-so c =
     let a = stepped (j .before) in
     let d = done a in
     either
-    (λ p. p .3 ∙ end-dropped (held (there d)) (place (there d)) (stored (own d)) (d .conclude .result) (a .advance-completion .result) (j .if5 .state) (observed-so j) _ (p .2 .ensures) (p .0 .taken))
-    (λ p. p .1 ∙ observed-so j ∙ end-held (held (there d)) (place (there d)) (stored (own d)) (d .conclude .result) (a .advance-completion .result) (p .0 .left))
+    (λ p. p .3 ∙ end-dropped (held (there d)) (place (there d)) (decided d) (d .conclude .result) (a .advance-completion .result) (j .if5 .state) (observed-so j) _ (p .2 .ensures) (p .0 .taken))
+    (λ p. p .1 ∙ observed-so j ∙ end-held (held (there d)) (place (there d)) (decided d) (d .conclude .result) (a .advance-completion .result) (p .0 .left))
     (c .if6 .came)
 
 -- ---- the needs
@@ -388,122 +376,74 @@ tag-by-fields-requires c κs = tt
 own-step-requires : tie.Need-own-step-requires
 own-step-requires c κs = tt
 
+mul-state : tie.Need-mul-state
+mul-state c = eights (near (home c))
+
 element-write-state : tie.Need-element-write-state
-element-write-state c = near (home (c .before .before .before .before))
+element-write-state c = near (home c)
 
 element-write-state-2 : tie.Need-element-write-state-2
-element-write-state-2 c = near (home (c .before .before .before .before))
-
-mul-state : tie.Need-mul-state
-mul-state c = eights (in-begun (near (home (c .before .before .before .before))))
+element-write-state-2 c = near (home c)
 
 element-write-state-3 : tie.Need-element-write-state-3
-element-write-state-3 c = near (home (c .before .before .before .before))
+element-write-state-3 c = near (home c)
 
-mul-candidate-seconds : tie.Need-mul-candidate-seconds
-mul-candidate-seconds c = eights (in-begun (near (home (c .before .before .before .before .before))))
+put-microsteps-requires : tie.Need-put-microsteps-requires
+put-microsteps-requires c κs = near (home (c .before))
 
-element-set-from-candidate-seconds : tie.Need-element-set-from-candidate-seconds
-element-set-from-candidate-seconds c = in-begun (near (home (c .before .before .before .before .before)))
+put-seconds-requires : tie.Need-put-seconds-requires
+put-seconds-requires c κs = near (home (c .before .before .before))
 
-mul-candidate-nanoseconds : tie.Need-mul-candidate-nanoseconds
-mul-candidate-nanoseconds c = fours (in-begun (near (home (c .before .before .before .before .before .before))))
-
-element-set-from-candidate-nanoseconds : tie.Need-element-set-from-candidate-nanoseconds
-element-set-from-candidate-nanoseconds c = in-begun (near (home (c .before .before .before .before .before .before)))
-
-mul-state-2 : tie.Need-mul-state-2
-mul-state-2 c = eights (in-begun (near (home (c .before .before .before .before .before .before))))
-
-element-write-state-4 : tie.Need-element-write-state-4
-element-write-state-4 c = in-begun (near (home (c .before .before .before .before .before .before)))
-
-add-at : tie.Need-add-at
-add-at c = offset (near (home (c .before .before .before .before .before .before)))
-
-mul-completed-seconds : tie.Need-mul-completed-seconds
-mul-completed-seconds c = eights (in-second (near (home (c .before .before .before .before .before .before .before))))
-
-element-set-from-completed-seconds : tie.Need-element-set-from-completed-seconds
-element-set-from-completed-seconds c = in-second (near (home (c .before .before .before .before .before .before .before)))
-
-mul-completed-nanoseconds : tie.Need-mul-completed-nanoseconds
-mul-completed-nanoseconds c = fours (in-second (near (home (c .before .before .before .before .before .before .before .before))))
-
-element-set-from-completed-nanoseconds : tie.Need-element-set-from-completed-nanoseconds
-element-set-from-completed-nanoseconds c = in-second (near (home (c .before .before .before .before .before .before .before .before)))
-
-mul-state-3 : tie.Need-mul-state-3
-mul-state-3 c = eights (in-second (near (home (c .before .before .before .before .before .before .before .before))))
-
-element-write-state-5 : tie.Need-element-write-state-5
-element-write-state-5 c = in-second (near (home (c .before .before .before .before .before .before .before .before)))
+put-nanoseconds-requires : tie.Need-put-nanoseconds-requires
+put-nanoseconds-requires c κs = near (home (c .before .before .before .before .before))
 
 conclude-requires : tie.Need-conclude-requires
-conclude-requires c κs = few (home (c .before .before .before .before .before .before .before .before .before .before .before .before .before .before .before))
+conclude-requires c κs = few (home (begun (c .before .before .before .before .before)))
 
 advance-completion-requires : tie.Need-advance-completion-requires
-advance-completion-requires c κs = few (there (c .before .before .before .before .before .before .before .before .before))
+advance-completion-requires c κs = few (there (c .before .before .before .before .before .before .before))
+
+put-microsteps-requires-2 : tie.Need-put-microsteps-requires-2
+put-microsteps-requires-2 c κs = near (there (done (c .before .before)))
+
+element-write-state-4 : tie.Need-element-write-state-4
+element-write-state-4 c = near (there (done (c .before .before .before)))
+
+put-seconds-requires-2 : tie.Need-put-seconds-requires-2
+put-seconds-requires-2 c κs = near (there (done (c .before .before .before .before)))
+
+put-nanoseconds-requires-2 : tie.Need-put-nanoseconds-requires-2
+put-nanoseconds-requires-2 c κs = near (there (done (c .before .before .before .before .before .before)))
+
+mul-state-2 : tie.Need-mul-state-2
+mul-state-2 c = eights (near (there (done (c .before .before .before .before .before .before .before))))
+
+element-write-state-5 : tie.Need-element-write-state-5
+element-write-state-5 c = near (there (done (c .before .before .before .before .before .before .before)))
 
 element-write-state-6 : tie.Need-element-write-state-6
-element-write-state-6 c = near (there (done (c .before .before .before)))
-
-element-write-state-7 : tie.Need-element-write-state-7
-element-write-state-7 c = near (there (done (c .before .before .before)))
-
-mul-state-4 : tie.Need-mul-state-4
-mul-state-4 c = eights (in-begun (near (there (done (c .before .before .before)))))
-
-element-write-state-8 : tie.Need-element-write-state-8
-element-write-state-8 c = near (there (done (c .before .before .before)))
-
-mul-old-candidate-seconds : tie.Need-mul-old-candidate-seconds
-mul-old-candidate-seconds c = eights (in-begun (near (there (done (c .before .before .before .before)))))
-
-element-set-from-old-candidate-seconds : tie.Need-element-set-from-old-candidate-seconds
-element-set-from-old-candidate-seconds c = in-begun (near (there (done (c .before .before .before .before))))
-
-mul-old-candidate-nanoseconds : tie.Need-mul-old-candidate-nanoseconds
-mul-old-candidate-nanoseconds c = fours (in-begun (near (there (done (c .before .before .before .before .before)))))
-
-element-set-from-old-candidate-nanoseconds : tie.Need-element-set-from-old-candidate-nanoseconds
-element-set-from-old-candidate-nanoseconds c = in-begun (near (there (done (c .before .before .before .before .before))))
-
-mul-state-5 : tie.Need-mul-state-5
-mul-state-5 c = eights (in-begun (near (there (done (c .before .before .before .before .before)))))
-
-element-write-state-9 : tie.Need-element-write-state-9
-element-write-state-9 c = in-begun (near (there (done (c .before .before .before .before .before))))
-
-mul-old-completed-seconds : tie.Need-mul-old-completed-seconds
-mul-old-completed-seconds c = eights (in-second (near (there (done (c .before .before .before .before .before .before)))))
-
-element-set-from-old-completed-seconds : tie.Need-element-set-from-old-completed-seconds
-element-set-from-old-completed-seconds c = in-second (near (there (done (c .before .before .before .before .before .before))))
-
-mul-old-completed-nanoseconds : tie.Need-mul-old-completed-nanoseconds
-mul-old-completed-nanoseconds c = fours (in-second (near (there (done (c .before .before .before .before .before .before .before)))))
-
-element-set-from-old-completed-nanoseconds : tie.Need-element-set-from-old-completed-nanoseconds
-element-set-from-old-completed-nanoseconds c = in-second (near (there (done (c .before .before .before .before .before .before .before))))
-
-mul-state-6 : tie.Need-mul-state-6
-mul-state-6 c = eights (in-second (near (there (done (c .before .before .before .before .before .before .before)))))
-
-element-write-state-10 : tie.Need-element-write-state-10
-element-write-state-10 c = in-second (near (there (done (c .before .before .before .before .before .before .before))))
+element-write-state-6 c = near (there (done (c .before .before .before .before .before .before .before)))
 
 with-reply-requires-3 : tie.Need-with-reply-requires-3
 with-reply-requires-3 c κs = tt
 
+-- the row put back over the one stored
 returns-3 : tie.Need-returns-3
 returns-3 c =
-    let a = c .before .before .before .before .before .before .before .before in
+    let l = c .before in
+    let t = l .before .before .before .before .before .before in
+    let a = t .before in
     let d = done a in
-    let w = rowed (begun (own d)) .row-at .result in
-    ends-9 _ _ _ _ (enters (there d)) (stored (own d)) (neat-so (own d)) (decides-so (own d)) (d .conclude .result) (concludes-at d) (a .advance-completion .result) (advances-at a) _
-    (c .before .before .before .before .before .before .before .if3 .taken) (stored (own d) .parts .row) (toldRow w)
-    (told-row w (search (needs, c .before .before .before .before .struct-told5 .given), search (needs, c .before .before .before .struct-told6 .given)) (search (needs, c .before .before .struct-told7 .given), search (needs, c .before .struct-told8 .given)) ∙ row-is (begun (own d)))
+    let o = first-half d in
+    let n = own d in
+    let x = decided d .parts .row in
+    let w = rowed o .row-at .result in
+    let s = held (there d) in
+    let i = place (there d) in
+    ends-9 _ _ _ _ (enters (there d)) (decided d) (neat-at o) (decides-at o) (d .conclude .result) (concludes-at d) (a .advance-completion .result) (advances-at a) _
+    (t .if3 .taken) x w (row-is o) _
+    (put-over s i x w (n .before .before .put-seconds .ensures) (n .put-nanoseconds .ensures) (n .before .before .before .before .put-microsteps .ensures)
+    (l .before .before .put-seconds2 .ensures) (l .put-nanoseconds2 .ensures) (l .before .before .before .before .put-microsteps2 .ensures))
     (c .with-reply3 .ensures)
 
 is-about-completion-requires : tie.Need-is-about-completion-requires
@@ -512,19 +452,8 @@ is-about-completion-requires c κs = tt
 clear-requires : tie.Need-clear-requires
 clear-requires c κs = few (there (done (stepped (c .before .before))))
 
-mul-number : tie.Need-mul-number
-mul-number c = fours (in-begun (near (there (done (stepped (c .before))))))
-
-element-copy-out-number : tie.Need-element-copy-out-number
-element-copy-out-number c = near (there (done (stepped (c .before))))
-
-add-said-requires : tie.Need-add-said-requires
-add-said-requires c κs = tt
-
-add-saying-requires : tie.Need-add-saying-requires
-add-saying-requires c κs =
-    let o = c .before .before .before .before .before .before .before .before in
-    (o .add-said .ensures .1, few (there (done (stepped (o .before .before .before .before)))))
+add-step-requires : tie.Need-add-step-requires
+add-step-requires c κs = let h = there (done (stepped (c .before .before .before .before .before .before .before))) in (few h, near h)
 
 dropped-requires : tie.Need-dropped-requires
 dropped-requires c κs = tt
@@ -533,19 +462,18 @@ with-reply-requires-4 : tie.Need-with-reply-requires-4
 with-reply-requires-4 c κs = tt
 
 same-length : tie.Need-same-length
-same-length c = let w = c .before .before .before .before in w .add-saying .kept .0 ∙ w .before .before .before .before .before .before .before .before .before .add-said .kept .0
+same-length c = c .before .before .before .before .add-step .kept .0
 
 returns-4 : tie.Need-returns-4
 returns-4 c =
     let e = c .before in
     let w = watched e in
     let j = w .before in
-    let o = c .before .before .before .before .before .before .before .before .before .before .before .before .before in
     let a = stepped j in
     let d = done a in
-    ends-0 _ _ _ _ (enters (there d)) (stored (own d)) (neat-so (own d)) (decides-so (own d)) (d .conclude .result) (concludes-at d) (a .advance-completion .result) (advances-at a) _
-    (j .before .before .before .if3 .left) (w .if5 .state) (observed-so w) (e .if6 .state) (ended-so e) _ _ _ _ (o .add-said .ensures .0)
-    (c .before .before .before .before .add-saying .ensures) (c .with-reply4 .ensures)
+    let o = first-half d in
+    ends-0 _ _ _ _ (enters (there d)) (decided d) (neat-at o) (decides-at o) (d .conclude .result) (concludes-at d) (a .advance-completion .result) (advances-at a) _
+    (j .before .before .before .if3 .left) (w .if5 .state) (observed-so w) (e .if6 .state) (ended-so e) _ _ (c .before .before .before .before .add-step .ensures) (c .with-reply4 .ensures)
 
 pub handle-scheduler-spec : {M : Type 1} → statement M
 handle-scheduler-spec =
@@ -576,49 +504,27 @@ handle-scheduler-spec =
     completion-by-fields-requires
     tag-by-fields-requires
     own-step-requires
+    mul-state
     element-write-state
     element-write-state-2
-    mul-state
     element-write-state-3
-    mul-candidate-seconds
-    element-set-from-candidate-seconds
-    mul-candidate-nanoseconds
-    element-set-from-candidate-nanoseconds
-    mul-state-2
-    element-write-state-4
-    add-at
-    mul-completed-seconds
-    element-set-from-completed-seconds
-    mul-completed-nanoseconds
-    element-set-from-completed-nanoseconds
-    mul-state-3
-    element-write-state-5
+    put-microsteps-requires
+    put-seconds-requires
+    put-nanoseconds-requires
     conclude-requires
     advance-completion-requires
+    put-microsteps-requires-2
+    element-write-state-4
+    put-seconds-requires-2
+    put-nanoseconds-requires-2
+    mul-state-2
+    element-write-state-5
     element-write-state-6
-    element-write-state-7
-    mul-state-4
-    element-write-state-8
-    mul-old-candidate-seconds
-    element-set-from-old-candidate-seconds
-    mul-old-candidate-nanoseconds
-    element-set-from-old-candidate-nanoseconds
-    mul-state-5
-    element-write-state-9
-    mul-old-completed-seconds
-    element-set-from-old-completed-seconds
-    mul-old-completed-nanoseconds
-    element-set-from-old-completed-nanoseconds
-    mul-state-6
-    element-write-state-10
     with-reply-requires-3
     returns-3
     is-about-completion-requires
     clear-requires
-    mul-number
-    element-copy-out-number
-    add-said-requires
-    add-saying-requires
+    add-step-requires
     dropped-requires
     with-reply-requires-4
     same-length
