@@ -88,41 +88,35 @@ pub fn handle_acquisition(
     ensures bytes { λ r. ⌜ now (room .exit) ≡ putAt (now (room .entry)) 0 (recordsOf (actionsOf (lent (length (now (room .entry))) (acquire (acquisition .revision) (acquisition .granted))) state)) ⌝ }
 {
     let count = state.count;
-    let coordination = state.coordination;
-    let completion = state.completion;
-    let gate = state.gate;
-    let horizon = state.grant_horizon;
-    let tag = acquisition.granted;
     // The small parts are tested where they are at hand, since a test that takes them by value costs their copies.
-    let next_event = coordination.pending_next_event;
-    let pending_horizon = coordination.pending_grant_horizon;
-    let frontier = completion.completed_frontier;
-    let probe = completion.completion_probe;
-    let first_input = completion.first_input;
-    let last_input = completion.last_input;
-    let input_horizon = gate.input_horizon;
-    let granted = gate.granted;
-    let stored = gate.stored_granted;
     let both = soundness::all_hold(
         soundness::flags_are_sound(
-            coordination.phase,
-            coordination.authorized,
-            coordination.idle_authorization,
+            state.coordination.phase,
+            state.coordination.authorized,
+            state.coordination.idle_authorization,
         ),
         soundness::publication_is_sound(
-            coordination.pending,
-            coordination.pending_revision,
-            next_event,
-            pending_horizon,
+            state.coordination.pending,
+            state.coordination.pending_revision,
+            state.coordination.pending_next_event,
+            state.coordination.pending_grant_horizon,
         ),
-        soundness::are_cells(frontier, probe),
-        soundness::inputs_are_sound(first_input, last_input),
+        soundness::are_cells(
+            state.completion.completed_frontier,
+            state.completion.completion_probe,
+        ),
+        soundness::inputs_are_sound(state.completion.first_input, state.completion.last_input),
     );
     let small = soundness::all_hold(
         both,
-        soundness::are_cells(granted, input_horizon),
-        soundness::acquisition_is_sound(gate.stored_revision, stored),
-        soundness::rest_is_sound(horizon, state.failed, state.first_failure, state.lifecycle),
+        soundness::are_cells(state.gate.granted, state.gate.input_horizon),
+        soundness::acquisition_is_sound(state.gate.stored_revision, state.gate.stored_granted),
+        soundness::rest_is_sound(
+            state.grant_horizon,
+            state.failed,
+            state.first_failure,
+            state.lifecycle,
+        ),
     );
     if !soundness::is_sound_with(
         &state.enclaves,
@@ -137,19 +131,19 @@ pub fn handle_acquisition(
     ) {
         return calls::with_reply(state, Refusal::UnsoundState, Answer::Silent, 0);
     }
-    let proper = tags::is_proper(tag);
+    let proper = tags::is_proper(acquisition.granted);
     let refusal = calls::room_first(room.len(), count, calls::tag_first(proper, true));
     if records::refusal_number(refusal) != 0 {
         return calls::with_reply(state, refusal, Answer::Silent, 0);
     }
-    let held_coordination = state::coordination_by_fields(coordination);
-    let held_gate = state::gate_by_fields(gate);
+    let held_coordination = state::coordination_by_fields(state.coordination);
+    let held_gate = state::gate_by_fields(state.gate);
     let acquired = grants::acquire(
         held_coordination,
         held_gate,
-        horizon,
+        state.grant_horizon,
         acquisition.revision,
-        tag,
+        acquisition.granted,
     );
     let opened = acquired.gate;
     state.gate = opened;

@@ -22,15 +22,12 @@ use Rattle.acquisition.proofs.handle_acquisition.Tie as tie
 
 -- ---- the places on the way
 
--- the tests of the small parts, seen from the test of the columns, and the first of them
+-- the tests of the small parts, seen from the test of the columns
 abbrev small : tie.After-is-sound-with → tie.After-all-hold2
 small c = c .before .before .before .before .before .before .before .before .before
 
-abbrev flagged : tie.After-all-hold2 → tie.After-flags-are-sound
-flagged c = c .before .before .before .before .before .before .before .before
-
 abbrev begun : tie.After-is-sound-with → tie.Start
-begun c = flagged (small c) .before .before .before .before .before .before .before .before .before .before .before .before .before .before .before .before
+begun c = small c .before .before .before .before .before .before .before .before .before .before .before .before .before .before .before .before .before .before .before .before
 
 abbrev given : tie.Start → Given
 given e = lent (length (e .args .room .now)) (acquire (e .args .acquisition .revision) (e .args .acquisition .granted))
@@ -45,13 +42,14 @@ tested : (c : tie.After-is-sound-with) → let s = begun c .args .t1 in c .is-so
 tested c =
     let s = begun c .args .t1 in
     let rest = small c .before in
-    let acquisition = rest .before in
-    let horizons = acquisition .before in
-    let both = horizons .before in
+    let acquisition = rest .before .before in
+    let horizons = acquisition .before .before in
+    let both = horizons .before .before .before in
     let inputs = both .before in
-    let frontiers = inputs .before in
-    let publication = frontiers .before in
-    sound-by-leaves s (publication .before .flags-are-sound .ensures) (publication .publication-is-sound .ensures) (frontiers .are-cells .ensures)
+    let frontiers = inputs .before .before .before in
+    let publication = frontiers .before .before .before in
+    let flags = publication .before .before .before in
+    sound-by-leaves s (flags .flags-are-sound .ensures) (publication .publication-is-sound .ensures) (frontiers .are-cells .ensures)
     (inputs .inputs-are-sound .ensures) (both .all-hold .ensures) (horizons .are-cells2 .ensures) (acquisition .acquisition-is-sound .ensures)
     (rest .rest-is-sound .ensures) (small c .all-hold2 .ensures) (c .is-sound-with .ensures s)
 
@@ -95,13 +93,13 @@ passed c =
     acquire-taken (length (a .room .now)) (a .acquisition .revision) (a .acquisition .granted) (a .t1) (stands (home c)) (none c .0) (none c .1)
 
 abbrev past : tie.After-acquire → tie.Else2
-past c = c .before .before .before
+past c = c .before .before .before .before .before .before
 
 decided : (c : tie.After-acquire) → let a = start (past c) .args in Acquires (a .acquisition .revision) (a .acquisition .granted) (a .t1) (c .acquire .result)
 decided c =
-    let g = c .before in
+    let g = c .before .before in
     c .acquire .ensures (start (past c) .args .t1) (stands (home (past c)) .good) (is-so (none (past c) .1))
-    (sym (g .before .coordination-by-fields .ensures)) (sym (g .gate-by-fields .ensures)) refl
+    (sym (g .before .before .coordination-by-fields .ensures)) (sym (g .gate-by-fields .ensures)) refl
 
 -- ---- 27
 
