@@ -5,6 +5,7 @@
 mod row;
 
 use calls::Called;
+use calls::Reply;
 use comparing::same_answers;
 use comparing::same_states;
 use libc::STDIN_FILENO;
@@ -35,17 +36,7 @@ fn next(count: usize) -> usize {
     count
 }
 
-// A refused call leaves the state as it was.
-fn is_kept(before: FederateCoordinationState, called: Called) -> bool {
-    let reply = called.reply;
-    let refusal = reply.refusal;
-    let after = called.state;
-    if records::refusal_number(refusal) == 0 {
-        return true;
-    }
-    same_states(before, after)
-}
-
+// The two calls gave the same, and a refused one left the state as it was.
 fn agree(
     before: FederateCoordinationState,
     lent: Called,
@@ -53,17 +44,15 @@ fn agree(
     room: &[u8],
     other_room: &[u8],
 ) -> bool {
-    if !same_answers(lent, valued) {
-        return false;
-    }
-    if !is_kept(before, lent) {
-        return false;
-    }
-    bytes::same_bytes(room, other_room)
+    let reply = lent.reply;
+    let refusal = reply.refusal;
+    let taken = records::refusal_number(refusal) == 0;
+    same_answers(lent, valued)
+        & (taken | same_states(before, lent.state))
+        & bytes::same_bytes(room, other_room)
 }
 
-fn say_call(called: Called, agreed: bool) {
-    let reply = called.reply;
+fn say_reply(reply: Reply, agreed: bool) {
     let refusal = reply.refusal;
     say(b" ");
     say_number(records::refusal_number(refusal) as u64);
@@ -77,20 +66,16 @@ fn say_call(called: Called, agreed: bool) {
 }
 
 fn noted(played: Played, called: Called, agreed: bool) -> Played {
-    let state = called.state;
-    let calls = next(played.calls);
-    say_call(called, agreed);
+    let mut count = played.agreed;
+    say_reply(called.reply, agreed);
     if agreed {
-        return Played {
-            state,
-            calls,
-            agreed: next(played.agreed),
-        };
+        count = next(count);
     }
+    let state = called.state;
     Played {
         state,
-        calls,
-        agreed: played.agreed,
+        calls: next(played.calls),
+        agreed: count,
     }
 }
 
