@@ -88,6 +88,7 @@ pub fn handle_acquisition(
     ensures bytes { λ r. ⌜ now (room .exit) ≡ putAt (now (room .entry)) 0 (recordsOf (actionsOf (lent (length (now (room .entry))) (acquire (acquisition .revision) (acquisition .granted))) state)) ⌝ }
 {
     let count = state.count;
+    let completion = state.completion;
     // The small parts are tested where they are at hand, since a test that takes them by value costs their copies.
     let both = soundness::all_hold(
         soundness::flags_are_sound(
@@ -101,11 +102,8 @@ pub fn handle_acquisition(
             state.coordination.pending_next_event,
             state.coordination.pending_grant_horizon,
         ),
-        soundness::are_cells(
-            state.completion.completed_frontier,
-            state.completion.completion_probe,
-        ),
-        soundness::inputs_are_sound(state.completion.first_input, state.completion.last_input),
+        soundness::are_cells(completion.completed_frontier, completion.completion_probe),
+        soundness::inputs_are_sound(completion.first_input, completion.last_input),
     );
     let small = soundness::all_hold(
         both,

@@ -27,7 +27,7 @@ abbrev small : tie.After-is-sound-with → tie.After-all-hold2
 small c = c .before .before .before .before .before .before .before .before .before
 
 abbrev begun : tie.After-is-sound-with → tie.Start
-begun c = small c .before .before .before .before .before .before .before .before .before .before .before .before .before .before .before .before .before .before .before .before
+begun c = small c .before .before .before .before .before .before .before .before .before .before .before .before .before .before .before .before .before
 
 abbrev given : tie.Start → Given
 given e = lent (length (e .args .room .now)) (acquire (e .args .acquisition .revision) (e .args .acquisition .granted))
@@ -46,8 +46,8 @@ tested c =
     let horizons = acquisition .before .before in
     let both = horizons .before .before .before in
     let inputs = both .before in
-    let frontiers = inputs .before .before .before in
-    let publication = frontiers .before .before .before in
+    let frontiers = inputs .before in
+    let publication = frontiers .before in
     let flags = publication .before .before .before in
     sound-by-leaves s (flags .flags-are-sound .ensures) (publication .publication-is-sound .ensures) (frontiers .are-cells .ensures)
     (inputs .inputs-are-sound .ensures) (both .all-hold .ensures) (horizons .are-cells2 .ensures) (acquisition .acquisition-is-sound .ensures)
