@@ -79,54 +79,52 @@ fn noted(played: Played, called: Called, agreed: bool) -> Played {
     }
 }
 
-fn tell(played: Played, row: Row, room: &mut [u8], other_room: &mut [u8]) -> Played {
-    let before = played.state;
-    let message = row::message_of(row);
-    let lent = lender::lend_scheduler(before, message, room);
-    let valued = federate::handle_scheduler(before, message, other_room);
-    let agreed = agree(before, lent, valued, room, other_room);
-    noted(played, lent, agreed)
-}
-
-fn request(played: Played, row: Row, room: &mut [u8], other_room: &mut [u8]) -> Played {
-    let before = played.state;
-    let asked = row::request_of(row);
-    let lent = lender::lend_request(before, asked, room);
-    let valued = requests::handle_request(before, asked, other_room);
-    let agreed = agree(before, lent, valued, room, other_room);
-    noted(played, lent, agreed)
-}
-
-fn change_for(played: Played, row: Row, enclaves: &[u32]) -> Played {
-    let before = played.state;
-    let change = row::change_of(row);
-    let lent = lender::lend_change(before, change, enclaves);
-    let valued = requests::change_gate(before, change, enclaves);
-    let agreed = agree(before, lent, valued, b"", b"");
-    noted(played, lent, agreed)
-}
-
-// An input notice names its enclave, or nobody.
-fn change(played: Played, row: Row) -> Played {
-    let one: [u32; 1] = [row.enclave];
-    if row.named {
-        return change_for(played, row, &one[..1]);
-    }
-    change_for(played, row, &one[..0])
-}
-
 // Digits are changes of the gate, capitals the other calls that take room, small letters the scheduler's messages.
-fn play_row(played: Played, row: Row, room: &mut [u8], other_room: &mut [u8]) -> Played {
+fn lent_call(
+    state: FederateCoordinationState,
+    row: Row,
+    enclaves: &[u32],
+    room: &mut [u8],
+) -> Called {
     if row.kind < b'A' {
-        return change(played, row);
+        return lender::lend_change(state, row::change_of(row), enclaves);
     }
     if row.kind < b'a' {
-        return request(played, row, room, other_room);
+        return lender::lend_request(state, row::request_of(row), room);
     }
-    tell(played, row, room, other_room)
+    lender::lend_scheduler(state, row::message_of(row), room)
 }
 
-// The row at a place of the file, if there is one.
+fn valued_call(
+    state: FederateCoordinationState,
+    row: Row,
+    enclaves: &[u32],
+    room: &mut [u8],
+) -> Called {
+    if row.kind < b'A' {
+        return requests::change_gate(state, row::change_of(row), enclaves);
+    }
+    if row.kind < b'a' {
+        return requests::handle_request(state, row::request_of(row), room);
+    }
+    federate::handle_scheduler(state, row::message_of(row), room)
+}
+
+fn play_row(
+    played: Played,
+    row: Row,
+    enclaves: &[u32],
+    room: &mut [u8],
+    other_room: &mut [u8],
+) -> Played {
+    let before = played.state;
+    let lent = lent_call(before, row, enclaves, room);
+    let valued = valued_call(before, row, enclaves, other_room);
+    let agreed = agree(before, lent, valued, room, other_room);
+    noted(played, lent, agreed)
+}
+
+// The row at a place of the file, if there is one; an input notice names its enclave, or nobody.
 fn play_at(
     played: Played,
     rows: &[u8],
@@ -141,7 +139,11 @@ fn play_at(
         return played;
     }
     let row = row::row_of(rows[at], rows[at + 1], rows[at + 2], rows[at + 3]);
-    play_row(played, row, room, other_room)
+    let one: [u32; 1] = [row.enclave];
+    if row.named {
+        return play_row(played, row, &one[..1], room, other_room);
+    }
+    play_row(played, row, &one[..0], room, other_room)
 }
 
 fn say_count(agreed: usize, calls: usize) {
