@@ -1,11 +1,13 @@
 // Acquisition (document 01, "Acquisition", "Publication sent" and `input_progress` of "Gate"; state.rs: handle_acquisition,
 // handle_publication_sent, input_progress). Each call takes the state, hands the next one back and writes its records from byte 0 of the room.
 // Refused are 27, 8 and 7, in this order.
+#![tactic(auto)]
+
 ghost use Rattle.std.specs.Prelude.{◌≡◌, ◌&&◌, length};
 ghost use Rattle.tags.specs.Tags.{proper_if_present, is_present, is_at_or_below, same_optional};
 ghost use Rattle.rules.specs.Model.{acquire, sent, progress};
 ghost use Rattle.rules.specs.Acquisition.{same_publication};
-ghost use Rattle.bytes.specs.Runs.{put_at};
+ghost use Rattle.octets.specs.Runs.{put_at};
 ghost use Rattle.actions.specs.Record.{records_of};
 ghost use Rattle.state.specs.Cells.{optional_of};
 ghost use Rattle.calls.specs.Called.{Promised, lent, actions_of};

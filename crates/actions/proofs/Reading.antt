@@ -6,7 +6,7 @@ use Prim.Native.Nat.{ℕ, ◌≤◌, ◌<◌}
 use lib.ListN.{length, take, get_or}
 use borrow.Author.Tests.{le-leb, lt-leb}
 use Rattle.records.specs.declared.CoordinationAction.{CoordinationAction}
-use Rattle.bytes.specs.Runs.{same_bytes}
+use Rattle.octets.specs.Runs.{same_bytes}
 use Rattle.actions.specs.Record.{record_of, proper_action}
 use Rattle.actions.specs.Reading.{candidate_of, confirmed, read_action}
 use Rattle.actions.specs.declared.ReadAction.TheVariants.{Action, NoActionRecord}

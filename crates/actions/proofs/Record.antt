@@ -8,8 +8,8 @@ use lib.ListN.{length, length-append}
 use Rattle.tags.specs.declared.OptionalTag.{OptionalTag}
 use Rattle.tags.specs.declared.OptionalTag.TheVariants.{NoTag, At}
 use Rattle.records.specs.declared.CoordinationAction.{CoordinationAction}
-use Rattle.bytes.specs.Runs.{put_at, fits_at, written}
-use Rattle.bytes.proofs.Runs.{put-append, put_whole, written-fits}
+use Rattle.octets.specs.Runs.{put_at, fits_at, written}
+use Rattle.octets.proofs.Runs.{put-append, put_whole, written-fits}
 use Rattle.actions.specs.Record.{fields_of, head_bytes, optional_bytes, bytes_of, record_of, records_of}
 use Rattle.actions.specs.declared.Fields.{Fields}
 

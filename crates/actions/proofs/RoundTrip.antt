@@ -18,11 +18,11 @@ use Rattle.tags.specs.declared.OptionalTag.{OptionalTag}
 use Rattle.tags.specs.declared.OptionalTag.TheVariants.{NoTag, At}
 use Rattle.records.specs.declared.CoordinationAction.{CoordinationAction}
 use Rattle.records.specs.declared.CoordinationAction.TheVariants as action
-use Rattle.bytes.specs.LittleEndian.{AreBytes, num_at}
-use Rattle.bytes.specs.Runs.{same_bytes}
-use Rattle.bytes.proofs.LittleEndian.{unle-le, num-below}
-use Rattle.bytes.proofs.Runs.{same_refl, same-equal}
-use Rattle.bytes.proofs.Signed.{signed-bits}
+use Rattle.octets.specs.LittleEndian.{AreBytes, num_at}
+use Rattle.octets.specs.Runs.{same_bytes}
+use Rattle.octets.proofs.LittleEndian.{unle-le, num-below}
+use Rattle.octets.proofs.Runs.{same_refl, same-equal}
+use Rattle.octets.proofs.Signed.{signed-bits}
 use Rattle.actions.specs.Record.{fields, tag_bytes, bytes_of, record_of, records_of, proper_action}
 use Rattle.actions.specs.Reading.{enclave_at, tag_at, optional_at, flag_at, publication_at, candidate_of, confirmed, read_action, read_number}
 use Rattle.actions.specs.Demands.{FitsTag, FitsOptional, FitsWidths, Writable, ReadWrite, ReadWriteEach, RecordsDiffer, WriteRead, NoRecord, Refused28}

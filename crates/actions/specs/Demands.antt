@@ -7,7 +7,7 @@ use Rattle.tags.specs.declared.Tag.{Tag}
 use Rattle.tags.specs.declared.OptionalTag.{OptionalTag}
 use Rattle.tags.specs.declared.OptionalTag.TheVariants.{NoTag, At}
 use Rattle.records.specs.declared.CoordinationAction.{CoordinationAction}
-use Rattle.bytes.specs.LittleEndian.{AreBytes}
+use Rattle.octets.specs.LittleEndian.{AreBytes}
 use Rattle.actions.specs.Record.{fields_of, record_of, records_of, proper_action}
 use Rattle.actions.specs.Reading.{read_action, read_number}
 use Rattle.actions.specs.declared.ReadAction.TheVariants.{Action}

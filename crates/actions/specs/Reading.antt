@@ -10,8 +10,8 @@ use Rattle.records.specs.declared.FederatePublication.{FederatePublication}
 use Rattle.records.specs.declared.FederateCompletion.{FederateCompletion}
 use Rattle.records.specs.declared.CoordinationAction.TheVariants as action
 use Rattle.records.specs.declared.Refusal.TheVariants as refusal
-use Rattle.bytes.specs.LittleEndian.{num_at}
-use Rattle.bytes.specs.Runs.{same_bytes}
+use Rattle.octets.specs.LittleEndian.{num_at}
+use Rattle.octets.specs.Runs.{same_bytes}
 use Rattle.actions.specs.Record.{record_of, proper_action}
 use Rattle.actions.specs.declared.ReadAction.{ReadAction}
 use Rattle.actions.specs.declared.ReadAction.TheVariants.{Action, NoActionRecord}

@@ -9,7 +9,7 @@ use Rattle.tags.specs.declared.OptionalTag.TheVariants.{NoTag, At}
 use Rattle.records.specs.Numbers.{action_number}
 use Rattle.records.specs.declared.CoordinationAction.{CoordinationAction}
 use Rattle.records.specs.declared.CoordinationAction.TheVariants as action
-use Rattle.bytes.specs.LittleEndian.{le}
+use Rattle.octets.specs.LittleEndian.{le}
 use Rattle.actions.specs.declared.Fields.{Fields}
 
 abbrev pub fields : ℕ → ℕ → ℕ → OptionalTag → OptionalTag → Bool → Fields

@@ -1,8 +1,10 @@
 // Action bytes (document 01, "Action record, 56 bytes, little-endian"): writes actions into lent room and reads them back.
 // New here: the Rust hands out a `Vec` of actions. `write_action` answers no where the record does not fit, and so do the writers of the kinds with tags, which
 // make no action of their parts first; `read_action` refuses with 28 what is no action's record.
+#![tactic(auto)]
+
 ghost use Rattle.std.specs.Prelude.{◌≡◌, ◌+◌, ◌*◌, ◌≤◌, ◌<◌, false, ◌&&◌, ◌∷◌, ◌++◌, length, take, get_or};
-ghost use Rattle.bytes.specs.Runs.{put_at, fits_at, written, same_bytes};
+ghost use Rattle.octets.specs.Runs.{put_at, fits_at, written, same_bytes};
 ghost use Rattle.actions.specs.Record.{fields, fields_of, head_bytes, tag_bytes, optional_bytes, first_of, bytes_of, record_of, proper_action};
 ghost use Rattle.actions.specs.Reading.{tag_at, publication_at, candidate_of, read_action};
 ghost use Rattle.tags.specs.declared.OptionalTag.TheVariants.{NoTag, At};
@@ -12,7 +14,7 @@ use records::{CoordinationAction, FederateCompletion, FederatePublication};
 use tags::{OptionalTag, Tag};
 
 // What a record's bytes are made of: what the action's kind does not use is zero, absent or no.
-#[derive(Drop)]
+#[derive(Clone, Copy)]
 pub struct Fields {
     pub kind: u8,
     pub enclave: u32,
@@ -24,7 +26,7 @@ pub struct Fields {
 }
 
 // What reading finds: an action, or 28.
-#[derive(Drop)]
+#[derive(Clone, Copy)]
 pub enum ReadAction {
     Action(CoordinationAction),
     NoActionRecord,
@@ -121,17 +123,17 @@ fn head_bytes(f: Fields) -> [u8; 16]
     let one: u8 = if tags::is_present(first) { 1 } else { 0 };
     let two: u8 = if tags::is_present(second) { 2 } else { 0 };
     let four: u8 = if f.network_input { 4 } else { 0 };
-    let enclave = bytes::le4(f.enclave);
-    let number = bytes::le8(f.number);
+    let enclave = octets::le4(f.enclave);
+    let number = octets::le8(f.number);
     join_head(f.kind, one + two + four, enclave, number)
 }
 
 fn tag_bytes(t: Tag) -> [u8; 20]
     ensures { result ≡ tag_bytes t }
 {
-    let seconds = bytes::le8(bytes::bits64(t.seconds));
-    let nanoseconds = bytes::le4(bytes::bits32(t.nanoseconds));
-    let microstep = bytes::le8(t.microstep);
+    let seconds = octets::le8(octets::bits64(t.seconds));
+    let nanoseconds = octets::le4(octets::bits32(t.nanoseconds));
+    let microstep = octets::le8(t.microstep);
     join_tag(seconds, nanoseconds, microstep)
 }
 
@@ -153,9 +155,9 @@ fn put_fields(room: &mut [u8], at: usize, f: Fields)
     let head = head_bytes(f);
     let tag = optional_bytes(first);
     let second_tag = optional_bytes(second);
-    bytes::put_run(room, at, &head);
-    bytes::put_run(room, at + 16, &tag);
-    bytes::put_run(room, at + 36, &second_tag);
+    octets::put_run(room, at, &head);
+    octets::put_run(room, at + 16, &tag);
+    octets::put_run(room, at + 36, &second_tag);
 }
 
 fn write_fields(room: &mut [u8], place: usize, f: Fields) -> bool
@@ -215,9 +217,9 @@ fn tag_at(s: &[u8], at: usize) -> Tag
     requires { at ≤ 36 }
     ensures { result ≡ tag_at s.now at }
 {
-    let seconds = bytes::signed64(bytes::get8(s, at));
-    let nanoseconds = bytes::signed32(bytes::get4(s, at + 8));
-    let microstep = bytes::get8(s, at + 12);
+    let seconds = octets::signed64(octets::get8(s, at));
+    let nanoseconds = octets::signed32(octets::get4(s, at + 8));
+    let microstep = octets::get8(s, at + 12);
     Tag {
         seconds,
         nanoseconds,
@@ -243,7 +245,7 @@ fn publication_at(s: &[u8]) -> FederatePublication
         OptionalTag::NoTag
     };
     FederatePublication {
-        revision: bytes::get8(s, 8),
+        revision: octets::get8(s, 8),
         next_event,
         grant_horizon,
     }
@@ -254,8 +256,8 @@ fn candidate(s: &[u8]) -> ReadAction
     ensures { result ≡ candidate_of (get_or s.now 0 0) s.now }
 {
     let kind = s[0];
-    let enclave = bytes::get4(s, 4);
-    let number = bytes::get8(s, 8);
+    let enclave = octets::get4(s, 4);
+    let number = octets::get8(s, 8);
     let tag = tag_at(s, 16);
     match kind {
         1 => ReadAction::Action(CoordinationAction::Publish(publication_at(s))),
@@ -289,7 +291,7 @@ fn is_confirmed(action: CoordinationAction, s: &[u8]) -> bool
 {
     let mut record = [0u8; 56];
     write_action(&mut record, 0, action);
-    let same = bytes::same_bytes(&record, &s[..56]);
+    let same = octets::same_bytes(&record, &s[..56]);
     let f = fields_of(action);
     let first = f.first;
     let second = f.second;

@@ -1,6 +1,8 @@
 // The queries by number, for a host: 1 revision, 2 generation, 3 phase, 4 stopped, 5 settled, 6 first failure, 7 grant horizon, 8 completed frontier,
 // 9 pending publication, 10 revision that awaits its idle confirmation, 11 candidate of an enclave. New here: the Rust has a function for each.
 // Any other number is refused 11, whatever the state; a query is refused 27 as in the crate queries, and answers then what is said there.
+#![tactic(auto)]
+
 ghost use Rattle.std.specs.Prelude.{◌≡◌};
 ghost use Rattle.records.specs.Numbers.{refusal_number};
 ghost use Rattle.rules.specs.Model.{NoTag};
@@ -19,7 +21,7 @@ use tags::OptionalTag;
 
 // A query's answer. What the query does not answer by is 0 or absent.
 #[repr(C)]
-#[derive(Drop)]
+#[derive(Clone, Copy)]
 pub struct AskedNumbers {
     pub refusal: u8,
     // Whether what may be absent is there, and whether the enclave of a candidate is known; yes for any other query.

@@ -1,6 +1,8 @@
 // Drives the public calls that `rig_scenario` does not: openings with their refusals 5, 2, 6 and 1, every query, by its number for a host, in states that tell its answers apart and on a
 // state that is refused 27, `delay` with 7 and 10 (P4 is its first), the verdicts, and action records with 28. P5 is the third line of queries. The file
 // stdout was held against document 01 by hand.
+#![tactic(auto)]
+
 mod alone;
 mod ask;
 mod say;

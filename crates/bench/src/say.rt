@@ -12,7 +12,7 @@ pub fn say_number(number: u64) {
 }
 
 fn say_seconds(number: i64) {
-    let bits = bytes::bits64(number);
+    let bits = octets::bits64(number);
     if number < 0 {
         say(b" -");
         io::print_decimal(STDOUT_FILENO, std::num::wrapping_sub_u64(0, bits));
@@ -22,7 +22,7 @@ fn say_seconds(number: i64) {
 }
 
 fn say_nanoseconds(number: i32) {
-    let bits = bytes::bits32(number);
+    let bits = octets::bits32(number);
     if number < 0 {
         say(b":-");
         io::print_decimal(STDOUT_FILENO, std::num::wrapping_sub_u32(0, bits) as u64);

@@ -1,5 +1,7 @@
 // The event budget of a run (document 01, "A run takes a number of events it may use and reports how many it took, the lesser of the two; refused events
 // count"). What a run gives is defined in specs/, and what is demanded of it is proved of that here. Nothing is refused.
+#![tactic(auto)]
+
 ghost use Rattle.std.specs.Prelude.{◌≡◌, cond, ◌-◌, eqb};
 ghost use Rattle.budget.specs.Run.{lesser, allowance};
 

@@ -11,8 +11,8 @@ use lib.ListN.{length}
 use Rattle.records.specs.Numbers.{refusal_number}
 use Rattle.records.specs.declared.Refusal.{Refusal}
 use Rattle.records.specs.declared.Refusal.TheVariants.{Taken, UnsoundState, RoomTooSmall, ImproperTag}
-use Rattle.bytes.specs.Runs.{put_at}
-use Rattle.bytes.proofs.Runs.{put-nil}
+use Rattle.octets.specs.Runs.{put_at}
+use Rattle.octets.proofs.Runs.{put-nil}
 use Rattle.actions.specs.Record.{records_of}
 use Rattle.rules.specs.Model.{CoordinationAction, Silent, Step, Call, Given}
 use Rattle.rules.specs.Walk.{quiet}

@@ -1,11 +1,13 @@
 // What a public call answers: the next state and a reply, the same for every call. A refused call hands back the state it got.
+#![tactic(auto)]
+
 ghost use Rattle.std.specs.Prelude.{◌≡◌, ◌≤◌};
 ghost use Rattle.calls.specs.Called.{replied, is_open, room_first, tag_first};
 
 use records::{Answer, Refusal};
 use state::FederateCoordinationState;
 
-#[derive(Drop)]
+#[derive(Clone, Copy)]
 pub struct Reply {
     // `Taken`, or why the call was refused.
     pub refusal: Refusal,
@@ -14,7 +16,7 @@ pub struct Reply {
     pub actions: usize,
 }
 
-#[derive(Drop)]
+#[derive(Clone, Copy)]
 pub struct Called {
     pub state: FederateCoordinationState,
     pub reply: Reply,

@@ -1,4 +1,6 @@
 // Whether two answers are the same, for the program `rig_scenario`: every cell of the state, and the reply. Nothing is refused here.
+#![tactic(auto)]
+
 use calls::{Called, Reply};
 use records::Answer;
 use state::{Completion, Coordination, FederateCoordinationState, Gate};

@@ -1,5 +1,7 @@
 // Completion (document 01, "CompleteTag", "CompletionObserved", "After every taken scheduler message" and "Complete's mark"; state.rs:
 // complete, completion, advance_completion). The columns are lent and small parts go in and out by value. 9 is answered as `spent`.
+#![tactic(auto)]
+
 ghost use Rattle.std.specs.Prelude.{◌≡◌, false, cond, ℕ, ◌≤◌, T};
 ghost use Rattle.tags.specs.Tags.{is_proper};
 ghost use Rattle.rules.specs.Completion.{complete_tag_of, observed_of, front_of};
@@ -17,7 +19,7 @@ use table::Scanned;
 use tags::Tag;
 
 // What the completion step says.
-#[derive(Drop)]
+#[derive(Clone, Copy)]
 pub enum Saying {
     Nothing,
     // A CompletionProbe to each lagging enclave.
@@ -27,7 +29,7 @@ pub enum Saying {
 }
 
 // The completion step: what it says, and the cells of completion after it.
-#[derive(Drop)]
+#[derive(Clone, Copy)]
 pub struct Advanced {
     // The generation would rise past 2^64 - 1: 9, and nothing else counts.
     pub spent: bool,
@@ -39,7 +41,7 @@ pub struct Advanced {
 }
 
 // CompleteTag's second half: whether it completes, the tag and its mark, and the cells of completion after it.
-#[derive(Drop)]
+#[derive(Clone, Copy)]
 pub struct Least {
     pub completes: bool,
     pub tag: Tag,

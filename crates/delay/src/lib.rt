@@ -1,5 +1,7 @@
 // Delay (document 01, "Tags", last three sentences; time.rs, `Tag::delay`): a tag later or earlier by a duration, exactly.
 // Refuses with 7 what is not proper and with 10 what leaves the range, and then returns its tag.
+#![tactic(auto)]
+
 ghost use Rattle.std.specs.Prelude.{◌≡◌, true, pos, negsuc, ◌+ℤ◌, ◌-ℤ◌};
 ghost use Rattle.std.specs.Int.Signed.{lt_z, le_z};
 ghost use Rattle.std.specs.Int.{w32, w64};
@@ -12,7 +14,7 @@ use records::Refusal;
 use tags::Tag;
 
 // A signed span of logical time.
-#[derive(Drop)]
+#[derive(Clone, Copy)]
 pub struct Duration {
     // Whole seconds.
     pub seconds: i64,
@@ -21,7 +23,7 @@ pub struct Duration {
 }
 
 // The answer of `delay`: the delayed tag, or the refusal and the tag as it was.
-#[derive(Drop)]
+#[derive(Clone, Copy)]
 pub struct Delayed {
     pub refusal: Refusal,
     pub tag: Tag,
@@ -124,8 +126,8 @@ fn seconds_leave_range(start: Duration, offset: Duration) -> bool
 }
 
 fn add_parts(start: Duration, offset: Duration) -> Duration
-    requires sfits { SFits w64 (start.seconds +ℤ offset.seconds) }
-    requires sfits_2 { SFits w32 (start.nanoseconds +ℤ offset.nanoseconds) }
+    requires seconds_fit { SFits w64 (start.seconds +ℤ offset.seconds) }
+    requires nanoseconds_fit { SFits w32 (start.nanoseconds +ℤ offset.nanoseconds) }
     ensures { result ≡ record { seconds = start.seconds +ℤ offset.seconds; nanoseconds = start.nanoseconds +ℤ offset.nanoseconds } }
 {
     Duration {
@@ -136,8 +138,8 @@ fn add_parts(start: Duration, offset: Duration) -> Duration
 
 // A second more and a second of nanoseconds less: the same total.
 fn carry(sum: Duration) -> Duration
-    requires sfits { SFits w64 (sum.seconds +ℤ pos 1) }
-    requires sfits_2 { SFits w32 (sum.nanoseconds +ℤ negsuc 999999999) }
+    requires seconds_fit { SFits w64 (sum.seconds +ℤ pos 1) }
+    requires nanoseconds_fit { SFits w32 (sum.nanoseconds +ℤ negsuc 999999999) }
     ensures { result ≡ record { seconds = sum.seconds +ℤ pos 1; nanoseconds = sum.nanoseconds +ℤ negsuc 999999999 } }
 {
     Duration {
@@ -148,8 +150,8 @@ fn carry(sum: Duration) -> Duration
 
 // A second less and a second of nanoseconds more: the same total.
 fn borrow(sum: Duration) -> Duration
-    requires sfits { SFits w64 (sum.seconds +ℤ negsuc 0) }
-    requires sfits_2 { SFits w32 (sum.nanoseconds +ℤ pos 1000000000) }
+    requires seconds_fit { SFits w64 (sum.seconds +ℤ negsuc 0) }
+    requires nanoseconds_fit { SFits w32 (sum.nanoseconds +ℤ pos 1000000000) }
     ensures { result ≡ record { seconds = sum.seconds +ℤ negsuc 0; nanoseconds = sum.nanoseconds +ℤ pos 1000000000 } }
 {
     Duration {
@@ -210,8 +212,8 @@ fn move_with_carry(tag: Tag, sum: Duration) -> Delayed
 }
 
 fn add_exactly(tag: Tag, offset: Duration) -> Delayed
-    requires tag_value { is_proper tag ≡ true }
-    requires nanoseconds_value { proper_time offset.seconds offset.nanoseconds ≡ true }
+    requires tag_is_proper { is_proper tag ≡ true }
+    requires offset_is_proper { proper_time offset.seconds offset.nanoseconds ≡ true }
     ensures { result ≡ moved_of tag (total_nanoseconds (offset_of tag) +ℤ total_nanoseconds offset) }
 {
     let start = offset_of(tag);

@@ -1,5 +1,7 @@
 // Message dispatch (document 01, "message dispatch, choosing by kind number"; state.rs: handle_scheduler, stop, fail): a scheduler message's own rule,
 // in two halves. Nothing is refused here.
+#![tactic(auto)]
+
 ghost use Rattle.std.specs.Prelude.{◌≡◌, false, not, ℕ, ◌≤◌, T};
 ghost use Rattle.records.specs.declared.SchedulerMessage.{SchedulerMessage};
 ghost use Rattle.rules.specs.Model.{NoTag, Enclave};
@@ -18,7 +20,7 @@ use state::{Completion, Coordination, Decided, Next, Parts};
 use tags::{OptionalTag, Tag};
 
 // A scheduler message as its kind number and what the kinds carry: absent, no or 0 where a kind carries none.
-#[derive(Drop)]
+#[derive(Clone, Copy)]
 pub struct Flat {
     pub kind: u8,
     pub enclave: OptionalEnclave,
@@ -28,7 +30,7 @@ pub struct Flat {
 }
 
 // The actions of a message's own rule.
-#[derive(Drop)]
+#[derive(Clone, Copy)]
 pub enum Said {
     // The action of this kind without tags, or none if 0.
     Kind(u8),
@@ -39,7 +41,7 @@ pub enum Said {
 }
 
 // What the second half leaves of the small parts, and what it says.
-#[derive(Drop)]
+#[derive(Clone, Copy)]
 pub struct Concluded {
     pub coordination: Coordination,
     pub completion: Completion,

@@ -7,9 +7,9 @@ use native.Mathlib.Numerals.{add-one}
 use native.Mathlib.Omega.{arith}
 use borrow.Author.Tests.{eq-eqb, ne_eqb}
 use lib.ListN.{length, length-append}
-use Rattle.bytes.specs.Runs.{written}
+use Rattle.octets.specs.Runs.{written}
 use Rattle.actions.specs.Record.{record_of, records_of}
-use Rattle.bytes.proofs.Runs.{put-nil, length-put, written-fits}
+use Rattle.octets.proofs.Runs.{put-nil, length-put, written-fits}
 use Rattle.actions.proofs.Record.{length-record, length-records, put_next}
 use Rattle.rules.specs.Model.{Abort, CoordinationAction}
 use Rattle.state.specs.Decides.{said_of}

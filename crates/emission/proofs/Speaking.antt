@@ -4,7 +4,7 @@ use mathlib.Core.Bool.{Bool, true, false, cond}
 use mathlib.Core.List.{List, [], ◌∷◌}
 use Prim.Native.Nat.{ℕ, ◌*◌}
 use lib.Dec.{eqb}
-use Rattle.bytes.specs.Runs.{written}
+use Rattle.octets.specs.Runs.{written}
 use Rattle.actions.specs.Record.{record_of}
 use Rattle.rules.specs.Model.{OptionalTag, Publish, Resume, Probe}
 use Rattle.state.specs.declared.Coordination.{Coordination}

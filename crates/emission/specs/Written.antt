@@ -1,7 +1,7 @@
 -- The records of a call's actions, one after the other from byte 0 of the room: what has been written so far, and what is added. Assumes nothing.
 use Rattle.std.specs.Prelude.{◌≡◌, List, [], ◌∷◌, ◌++◌, ℕ, ◌+◌, ◌*◌, ◌≤◌, ℤ, length, get_or}
 use Rattle.tags.specs.Tags.{is_below}
-use Rattle.bytes.specs.Runs.{put_at}
+use Rattle.octets.specs.Runs.{put_at}
 use Rattle.actions.specs.Record.{records_of}
 use Rattle.rules.specs.Model.{Tag, CoordinationAction, CompletionProbe}
 use Rattle.state.specs.Cells.{optional_of, tag_in}

@@ -1,5 +1,7 @@
 // The records of a call's actions (document 01, "Only calls write records, from byte 0; later bytes keep their values"): each function adds its actions to
 // those written so far. How many there may be is the caller's to bound; the room is large enough by refusal 8.
+#![tactic(auto)]
+
 ghost use Rattle.std.specs.Prelude.{◌≡◌, [], ◌∷◌, ◌++◌, ◌+◌, ◌≤◌, ◌<◌, cond, eqb, get_or};
 ghost use Rattle.tags.specs.Tags.{is_below};
 ghost use Rattle.rules.specs.Model.{AdvanceHorizon, Grant, CompletionProbe};

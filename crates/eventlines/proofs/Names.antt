@@ -5,7 +5,7 @@ use mathlib.Core.List.{List, [], ◌∷◌}
 use Prim.Native.Nat.{ℕ, ◌+◌}
 use native.Mathlib.Omega.{arith}
 use lib.ListN.{length}
-use Rattle.bytes.specs.Runs.{same_bytes}
+use Rattle.octets.specs.Runs.{same_bytes}
 use Rattle.numerals.specs.Numerals.{text}
 use Rattle.events.specs.Events.{event_number}
 use Rattle.events.specs.Told.{fields_from}

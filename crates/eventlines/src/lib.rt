@@ -1,5 +1,7 @@
 // Event lines (document 01, "Script and its listing"; "message dispatch, choosing by kind number"): the event that a line tells.
 // New here: the Rust reads no script. A line that is no event is told as none; nothing else is refused.
+#![tactic(auto)]
+
 ghost use Rattle.std.specs.Prelude.{◌≡◌, ◌∷◌, ◌+◌, ◌≤◌, ◌<◌, length, drop};
 ghost use Rattle.std.proofs.Math.Option.{none, some};
 ghost use Rattle.numerals.specs.Numerals.{space};
@@ -12,7 +14,7 @@ use events::Event;
 use records::OptionalNumber;
 
 // What the fields of an `input` line name: whether they are good, how many enclaves, and these, with 0 after them.
-#[derive(Drop)]
+#[derive(Clone, Copy)]
 struct Named {
     good: bool,
     count: usize,
@@ -37,7 +39,7 @@ fn event_number(w: &[u8]) -> u8
     let mut at: usize = 0;
     while at < names.len() {
         let end = field_end(names, at);
-        if bytes::same_bytes(w, &names[at + 1..end]) {
+        if octets::same_bytes(w, &names[at + 1..end]) {
             return number;
         }
         number += 1;

@@ -6,7 +6,7 @@ use mathlib.Core.Option.{Option, none, some}
 use Prim.Native.Nat.{ℕ, ◌-◌, ◌^◌, ◌≤◌}
 use lib.Dec.{eqb}
 use borrow.Author.Tests.{eq-eqb, ne_eqb, eqb-true}
-use Rattle.bytes.specs.Runs.{same_bytes}
+use Rattle.octets.specs.Runs.{same_bytes}
 use Rattle.numerals.specs.Numerals.{text, number_of, tag_of}
 use Rattle.numerals.proofs.Numbers.{number-le}
 use Rattle.rules.specs.Model.{Call, acquire, begin, late, done}

@@ -2,7 +2,7 @@
 -- "E and counts fit 32 bits. Settings revision and generation, G and R are 64-bit." Assumes nothing.
 use Rattle.std.specs.Prelude.{ℕ, ◌-◌, ◌^◌, Bool, true, false, cond, List, [], ◌∷◌, eqb, length}
 use Rattle.std.proofs.Math.Option.{Option, none, some}
-use Rattle.bytes.specs.Runs.{same_bytes}
+use Rattle.octets.specs.Runs.{same_bytes}
 use Rattle.numerals.specs.Numerals.{text, split, space, number_of, tag_of, optional_tag_of, or_dash, given}
 use Rattle.rules.specs.Model.{OptionalEnclave, NoEnclave, Enclave, Observation, Probed, HasParked, Rechecked, Call, active, stopped, publish, complete, observed, failed, acquire, sent, observe, idle, stop, progress, horizon, begin, late, done, input}
 

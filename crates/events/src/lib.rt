@@ -1,5 +1,7 @@
 // Events (document 01, "Script and its listing"): the call that an event tells, and an event made of the fields of its line.
 // New here: the Rust reads no script. A field that is not of its form makes no event; nothing else is refused.
+#![tactic(auto)]
+
 ghost use Rattle.std.specs.Prelude.{◌≡◌};
 ghost use Rattle.events.specs.Events.{mark_of, observation_of, with_one_field, with_two_fields, with_three_fields};
 ghost use Rattle.events.specs.Told.{event_for, told_mark, told_observation};
@@ -9,7 +11,7 @@ use records::{Observation, OptionalEnclave, OptionalNumber};
 use tags::{OptionalTag, Tag};
 
 // The call that a line tells, by its word in document 01. `Input` has the count of the enclaves that stand beside it.
-#[derive(Drop)]
+#[derive(Clone, Copy)]
 pub enum Event {
     NoEvent,
     Active(u32),
@@ -32,14 +34,14 @@ pub enum Event {
 }
 
 // What stands for `0|1`.
-#[derive(Drop)]
+#[derive(Clone, Copy)]
 pub enum ReadMark {
     NotMark,
     Mark(bool),
 }
 
 // What stands for `probed|parked|rechecked`.
-#[derive(Drop)]
+#[derive(Clone, Copy)]
 pub enum ReadObservation {
     NotObservation,
     Observing(Observation),
@@ -49,10 +51,10 @@ pub enum ReadObservation {
 fn mark(t: &[u8]) -> ReadMark
     ensures { told_mark result ≡ mark_of t.now }
 {
-    if bytes::same_bytes(t, b"0") {
+    if octets::same_bytes(t, b"0") {
         return ReadMark::Mark(false);
     }
-    if bytes::same_bytes(t, b"1") {
+    if octets::same_bytes(t, b"1") {
         return ReadMark::Mark(true);
     }
     ReadMark::NotMark
@@ -62,13 +64,13 @@ fn mark(t: &[u8]) -> ReadMark
 fn observation(t: &[u8]) -> ReadObservation
     ensures { told_observation result ≡ observation_of t.now }
 {
-    if bytes::same_bytes(t, b"probed") {
+    if octets::same_bytes(t, b"probed") {
         return ReadObservation::Observing(Observation::Probed);
     }
-    if bytes::same_bytes(t, b"parked") {
+    if octets::same_bytes(t, b"parked") {
         return ReadObservation::Observing(Observation::Parked);
     }
-    if bytes::same_bytes(t, b"rechecked") {
+    if octets::same_bytes(t, b"rechecked") {
         return ReadObservation::Observing(Observation::Rechecked);
     }
     ReadObservation::NotObservation
@@ -84,7 +86,7 @@ pub fn with_one_field(kind: u8, a: &[u8]) -> Event
         };
         return Event::Horizon(tag);
     }
-    let absent = bytes::same_bytes(a, b"-");
+    let absent = octets::same_bytes(a, b"-");
     if kind == 6 && absent {
         return Event::Failed(OptionalEnclave::NoEnclave);
     }

@@ -2,7 +2,7 @@
 -- and changes nothing. Assumes nothing.
 use Rattle.std.specs.Prelude.{◌≡◌, List, ℕ, length}
 use Rattle.std.proofs.Math.Option.{Option, none, some}
-use Rattle.bytes.specs.Runs.{put_at}
+use Rattle.octets.specs.Runs.{put_at}
 use Rattle.records.specs.Numbers.{refusal_number}
 use Rattle.records.specs.declared.Refusal.TheVariants.{ScriptOutOfForm}
 use Rattle.actions.specs.Record.{records_of}

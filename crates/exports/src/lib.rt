@@ -1,6 +1,8 @@
 // What a host in Rust or C links: an opening, every call on the one state that it lends, the queries, and an action read back from the room.
 // New here: the Rust is linked as it is. A number that names no kind of call, observation, policy or question is refused 11; all else is
 // refused as document 01 says of what it names.
+#![tactic(auto)]
+
 ghost use Rattle.std.specs.Prelude.{◌≡◌};
 ghost use Rattle.std.proofs.Math.Option.{none, some};
 ghost use Rattle.actions.specs.Reading.{read_action};
@@ -19,7 +21,7 @@ use state::FederateCoordinationState;
 
 // 0 and the opened state, or why there is none and the blank state of no participant.
 #[repr(C)]
-#[derive(Drop)]
+#[derive(Clone, Copy)]
 pub struct OpenedNumbers {
     pub refusal: u8,
     pub state: FederateCoordinationState,

@@ -1,7 +1,9 @@
 // The federate's scheduler call (document 01, "Step rules"; state.rs: handle_scheduler): refusals 27, 8, 7, 3 and 9, the message's own rule, then the
 // completion step, and the records of what they say from byte 0 of the lent room.
+#![tactic(auto)]
+
 ghost use Rattle.std.specs.Prelude.{◌≡◌, ◌≤◌, length};
-ghost use Rattle.bytes.specs.Runs.{put_at};
+ghost use Rattle.octets.specs.Runs.{put_at};
 ghost use Rattle.actions.specs.Record.{records_of};
 ghost use Rattle.state.specs.Parts.{Apart};
 ghost use Rattle.dispatch.specs.Messages.{call_of};

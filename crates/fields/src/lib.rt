@@ -1,6 +1,8 @@
 // The words of a listing's line (document 01, "Script and its listing"), put into lent room from a place on; the answer is the place after them.
 // New here: the Rust prints nothing. A line is made of its first word and of fields, each with the space before it. Nothing is refused: the callers lend
 // room for the longest of its kind, and every byte outside keeps its value.
+#![tactic(auto)]
+
 ghost use Rattle.std.specs.Prelude.{◌+◌, ◌≤◌, [], ◌∷◌, length};
 ghost use Rattle.printing.specs.Runs.{Puts};
 ghost use Rattle.fields.specs.Words.{line, phase_text};
@@ -10,7 +12,7 @@ use records::CoordinationPhase;
 use tags::OptionalTag;
 
 // A word of a line after the first, by what it says; a line with fewer words has blank fields.
-#[derive(Drop)]
+#[derive(Clone, Copy)]
 pub enum Field {
     Blank,
     Number(u64),

@@ -1,6 +1,8 @@
 // The input gate (document 01, "Gate"; state.rs: input_publishing, begin_tag, input_is_late, input_completed, and its input horizon). None takes
 // room. Refused are 27, then 7 a tag that is not proper, then 3 an enclave of `input_publishing` that is no participant; all of them are checked
 // before anything changes. The other calls never give 3.
+#![tactic(auto)]
+
 ghost use Rattle.std.specs.Prelude.{◌≡◌, cond, ◌≤◌};
 ghost use Rattle.tags.specs.Tags.{within};
 ghost use Rattle.rules.specs.Model.{horizon as capping, begin, late, done, input};

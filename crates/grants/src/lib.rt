@@ -1,5 +1,7 @@
 // What an acquisition decides (document 01, "Acquisition"; state.rs: handle_acquisition): the small parts, the flags of those granted, and the records of
 // the Grants. Nothing is refused here; a count beyond the columns is the caller's to exclude.
+#![tactic(auto)]
+
 ghost use Rattle.std.specs.Prelude.{◌≡◌, cond, ◌&&◌, [], ◌∷◌, ◌+◌, ◌≤◌, T};
 ghost use Rattle.tags.specs.Tags.{is_proper, is_present, is_at_or_below};
 ghost use Rattle.rules.specs.Model.{Grant};
@@ -14,7 +16,7 @@ use state::{Coordination, Gate};
 use tags::Tag;
 
 // What an acquisition makes of the small parts.
-#[derive(Drop)]
+#[derive(Clone, Copy)]
 pub struct Acquired {
     // Whether the horizon advances and candidates are granted.
     pub grants: bool,

@@ -1,7 +1,9 @@
 // A state that is lent for one call of the rig host, and handed back with the reply: for callers that hold no reference to a state. Each call promises in
 // the words of the call by value, so that the two can be held against each other.
+#![tactic(auto)]
+
 ghost use Rattle.std.specs.Prelude.{◌≡◌, length};
-ghost use Rattle.bytes.specs.Runs.{put_at};
+ghost use Rattle.octets.specs.Runs.{put_at};
 ghost use Rattle.actions.specs.Record.{records_of};
 ghost use Rattle.dispatch.specs.Messages.{call_of};
 ghost use Rattle.calls.specs.Called.{lent, actions_of, Promised};

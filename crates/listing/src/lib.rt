@@ -1,6 +1,8 @@
 // The listing's lines (document 01, "Script and its listing"), put into lent room from a place on; the answer is the place after the line.
 // New here: the Rust prints nothing. Nothing is refused: the callers lend room for the longest line of its kind, and every byte outside
 // the line keeps its value.
+#![tactic(auto)]
+
 ghost use Rattle.std.specs.Prelude.{◌+◌, ◌*◌, ◌≤◌, length, drop};
 ghost use Rattle.records.specs.Numbers.{refusal_number};
 ghost use Rattle.actions.specs.Reading.{read_action};

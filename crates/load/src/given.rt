@@ -1,7 +1,7 @@
 // The load as its line gives it. A number over its limit is the limit; a field that is lacking is 0, and a byte that is no digit counts for nothing.
 ghost use Rattle.std.specs.Prelude.{◌≡◌, ◌≤◌};
 
-#[derive(Drop)]
+#[derive(Clone, Copy)]
 pub struct Load {
     pub idle: bool,
     pub count: usize,

@@ -2,6 +2,8 @@
 // them. N enclaves, at most 32, have indices STRIDE apart. Kind 0 grants and completes one tag a turn (src/busy.rt), kind 1 goes idle, stops and is
 // revived once a turn (src/idle.rt). Written are the number of actions in all and the sum of the refusals' numbers, 0 when every call was taken: an opening
 // that is refused leaves the blank state, which refuses every call.
+#![tactic(auto)]
+
 mod busy;
 mod given;
 mod idle;

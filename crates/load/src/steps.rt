@@ -4,7 +4,7 @@ ghost use Rattle.std.specs.Prelude.{◌≡◌, ◌+◌, ◌*◌, ◌≤◌, ◌<
 use crate::given::Load;
 
 // The next call: its turn, its stage, and the enclave whose call it is, with its place.
-#[derive(Drop)]
+#[derive(Clone, Copy)]
 pub struct Step {
     pub turn: u64,
     pub stage: u8,

@@ -1,7 +1,7 @@
 // What the calls of a load came to.
 use calls::Reply;
 
-#[derive(Drop)]
+#[derive(Clone, Copy)]
 pub struct Totals {
     pub actions: u64,
     pub refusals: u64,

@@ -7,7 +7,7 @@ use Rattle.std.proofs.Math.Option.{Option, none, some}
 use Rattle.tags.specs.declared.Tag.{Tag}
 use Rattle.tags.specs.declared.OptionalTag.{OptionalTag}
 use Rattle.tags.specs.declared.OptionalTag.TheVariants.{NoTag, At}
-use Rattle.bytes.specs.Runs.{same_bytes}
+use Rattle.octets.specs.Runs.{same_bytes}
 
 -- ---- texts
 

@@ -1,5 +1,7 @@
 // Numbers and tags read from text (document 01, "Script and its listing"). New here: the Rust reads no text.
 // A text that is no such number or tag is answered by none; nothing else is refused.
+#![tactic(auto)]
+
 ghost use Rattle.std.specs.Prelude.{◌≡◌, ◌∷◌, ◌^◌, ◌≤◌, ◌<◌, length};
 ghost use Rattle.numerals.specs.Numerals.{split, colon, number_of, negated, unsigned, integer_of, joined, three_numbers, tag_of, optional_tag_of};
 ghost use Rattle.numerals.specs.Told.{told_number, told_integer, told_tag, told_optional_tag, Narrow, until, digits_of};
@@ -8,14 +10,14 @@ use records::OptionalNumber;
 use tags::{OptionalTag, Tag};
 
 // A signed number that was read, or that the text is none.
-#[derive(Drop)]
+#[derive(Clone, Copy)]
 enum ReadInteger {
     NotInteger,
     Integer(i64),
 }
 
 // What stands where a tag may be absent, or that the text is neither.
-#[derive(Drop)]
+#[derive(Clone, Copy)]
 pub enum ReadTag {
     NotTag,
     Read(OptionalTag),
@@ -182,7 +184,7 @@ pub fn tag(t: &[u8]) -> OptionalTag
 pub fn optional_tag(t: &[u8]) -> ReadTag
     ensures { told_optional_tag result ≡ optional_tag_of t.now }
 {
-    if bytes::same_bytes(t, b"-") {
+    if octets::same_bytes(t, b"-") {
         return ReadTag::Read(OptionalTag::NoTag);
     }
     let r = tag(t);

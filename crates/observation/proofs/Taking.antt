@@ -12,7 +12,7 @@ use borrow.Author.Tests.{eq-eqb, ne_eqb, le-ltb, ltb-true, ltb-false}
 use Rattle.records.specs.Numbers.{observation_number, refusal_number}
 use Rattle.records.specs.declared.Refusal.{Refusal}
 use Rattle.records.specs.declared.Refusal.TheVariants.{Taken, UnsoundState, InvalidObservationTransition}
-use Rattle.bytes.specs.Runs.{put_at}
+use Rattle.octets.specs.Runs.{put_at}
 use Rattle.actions.specs.Record.{records_of}
 use Rattle.rules.specs.Model.{CoordinationAction, Probe, Park, Recheck, Resume, Stop, Abort, Silent, State, Step, Call, Given, observe, idle, stop, Observation, Verdict, Counts, Ignored, Refused}
 use Rattle.rules.specs.Stop.{stop_of}

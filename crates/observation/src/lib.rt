@@ -1,8 +1,10 @@
 // Observation, idle confirmation and stop (document 01, "Observation", "Idle confirmation", and `stop` of
 // "ParticipantStopped, Failed, stop"; state.rs: handle_observation, handle_idle_confirmation, stop). A call refuses with 27 and 8; an
 // observation also with 3 and, where it is heard and the table says so, with 4.
+#![tactic(auto)]
+
 ghost use Rattle.std.specs.Prelude.{◌≡◌, cond, ◌≤◌, T, eqb, get_or, length};
-ghost use Rattle.bytes.specs.Runs.{put_at};
+ghost use Rattle.octets.specs.Runs.{put_at};
 ghost use Rattle.actions.specs.Record.{records_of};
 ghost use Rattle.rules.specs.Model.{Ignored, observe, idle, stop};
 ghost use Rattle.rules.specs.Stop.{stop_of};
@@ -19,7 +21,7 @@ use records::{Answer, CoordinationRevision, EnclaveIndex, Observation, Refusal, 
 use state::{Coordination, FederateCoordinationState};
 
 // What a rule that changes the coordination alone gives, and the number of the action that it says of the revision then, or 0 for none.
-#[derive(Drop)]
+#[derive(Clone, Copy)]
 struct Moved {
     coordination: Coordination,
     says: u8,

@@ -1,5 +1,7 @@
 // A script's listing on standard output, for the programs that read scripts (document 01, "Script and its listing"). All that is written is made by crates
 // `run` and `session`; here is the loop. No contract can say what a program reads or writes.
+#![tactic(auto)]
+
 ghost use Rattle.std.specs.Prelude.{◌≡◌, length};
 
 use libc::{STDIN_FILENO, STDOUT_FILENO};
@@ -43,7 +45,7 @@ pub fn list_next(text: &mut [u8], room: &mut [u8]) -> bool
     if io::read_full(STDIN_FILENO, &mut head) < 4 {
         return false;
     }
-    let n = bytes::get4(&head, 0) as usize;
+    let n = octets::get4(&head, 0) as usize;
     if text.len() < n {
         return false;
     }

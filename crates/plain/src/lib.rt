@@ -1,5 +1,7 @@
 // What a host gives and gets, as plain numbers in C's layout: calls, replies and actions read back. New here: the Rust hands
 // out enums and a `Vec`. A kind of call or an observation that has no meaning tells no call; every other function is total and refuses nothing.
+#![tactic(auto)]
+
 ghost use Rattle.std.specs.Prelude.{◌≡◌, false};
 ghost use Rattle.rules.specs.Model.{NoTag, At};
 ghost use Rattle.state.specs.Cells.{enclave_if};
@@ -20,7 +22,7 @@ use tags::{OptionalTag, Tag};
 
 // A tag that may be absent. An absent one's numbers are not looked at where a host gives them, and are 0 where it gets them.
 #[repr(C)]
-#[derive(Drop)]
+#[derive(Clone, Copy)]
 pub struct TagNumbers {
     pub present: bool,
     pub tag: Tag,
@@ -28,7 +30,7 @@ pub struct TagNumbers {
 
 // A call. What its kind does not use is not looked at; a kind that needs a tag takes the first one's numbers, present or not.
 #[repr(C)]
-#[derive(Drop)]
+#[derive(Clone, Copy)]
 pub struct CallNumbers {
     // The script's events in document 01's order, from 1: `active` to `progress`.
     pub kind: u8,
@@ -48,7 +50,7 @@ pub struct CallNumbers {
 
 // A call's reply.
 #[repr(C)]
-#[derive(Drop)]
+#[derive(Clone, Copy)]
 pub struct ReplyNumbers {
     pub refusal: u8,
     // 0 no, 1 yes, 2 for a call that answers nothing.
@@ -59,7 +61,7 @@ pub struct ReplyNumbers {
 
 // An action read from its record, or 28 and nothing else. What its kind does not use is 0, absent or no.
 #[repr(C)]
-#[derive(Drop)]
+#[derive(Clone, Copy)]
 pub struct ActionNumbers {
     pub refusal: u8,
     // The record's kind.

@@ -13,7 +13,7 @@ use mir.Syntax.{w64}
 use mir.Val.{SFits, bits, of_z, to_z}
 use mir.Facts.{to_z-of_z}
 use Rattle.numerals.specs.Numerals.{minus}
-use Rattle.bytes.proofs.Signed.{negative-below, negative-bits}
+use Rattle.octets.proofs.Signed.{negative-below, negative-bits}
 use Rattle.printing.specs.Printing.{digits_of, decimal, integer}
 
 pub ten-times : (k : ℕ) → 0 < k → 10 ^ k ≡ 10 * 10 ^ (k - 1)

@@ -14,10 +14,10 @@ use lib.ListN.{length, get_or, length-append, get_or-append}
 use borrow.Author.Tests.{ltb-true, ltb-false, leb-true, le-leb, eq-eqb, ne_eqb}
 use Rattle.tags.specs.declared.Tag.{Tag}
 use Rattle.tags.specs.declared.OptionalTag.TheVariants.{NoTag, At}
-use Rattle.bytes.specs.Runs.{same_bytes}
+use Rattle.octets.specs.Runs.{same_bytes}
 use Rattle.numerals.specs.Numerals.{text, colon, minus, split, is_digit, all_digits, value_from, is_numeral, number_of, unsigned, integer_of, tag_of, optional_tag_of}
 use Rattle.actions.specs.Demands.{FitsTag}
-use Rattle.bytes.proofs.Runs.{same-lengths}
+use Rattle.octets.proofs.Runs.{same-lengths}
 use Rattle.printing.specs.Printing.{digits_of, decimal, integer, tag_text}
 use Rattle.printing.specs.Demands.{NumberReadsBack, IntegerReadsBack, TagReadsBack, OptionalTagReadsBack}
 use Rattle.printing.proofs.Numbers.{two_digits}

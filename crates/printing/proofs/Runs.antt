@@ -6,8 +6,8 @@ use native.Mathlib.Omega.{arith}
 use native.Mathlib.Numerals.{add-one}
 use lib.ListN.{length, take, drop, set, length-append}
 use lib.Seq.{set_split, append_snoc}
-use Rattle.bytes.specs.Runs.{put_at}
-use Rattle.bytes.proofs.Runs.{put-append, put-nil, length-put}
+use Rattle.octets.specs.Runs.{put_at}
+use Rattle.octets.proofs.Runs.{put-append, put-nil, length-put}
 use Rattle.printing.specs.Runs.{Puts}
 
 -- a run, and another one right after it

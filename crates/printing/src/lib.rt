@@ -1,6 +1,8 @@
 // Numbers and tags as text (document 01, "Script and its listing"), put into lent room from a place on; the answer is the place after the run.
 // New here: the Rust prints nothing. Nothing is refused: the callers lend room for the longest run of its kind, and every byte
 // outside the run keeps its value.
+#![tactic(auto)]
+
 ghost use Rattle.std.specs.Prelude.{◌+◌, ◌^◌, ◌≤◌, ◌<◌, [], ◌∷◌, length};
 ghost use Rattle.printing.specs.Printing.{digits_of, decimal, integer, tag_text, optional_tag_text};
 ghost use Rattle.printing.specs.Runs.{Puts};
@@ -12,7 +14,7 @@ pub fn put_text(out: &mut [u8], at: usize, run: &[u8]) -> usize
     requires { at + length run.now ≤ length out.old }
     ensures { Puts out.old at run.now (length run.now) result out.new }
 {
-    bytes::copy_at(out, at, run);
+    octets::copy_at(out, at, run);
     at + run.len()
 }
 

@@ -1,5 +1,7 @@
 // Publication (document 01, "Revise", "Active" and "Publish"; state.rs: revise_publication, activate, publish). The columns are lent and small parts go
 // in and out by value. Nothing is refused here.
+#![tactic(auto)]
+
 ghost use Rattle.std.specs.Prelude.{◌≡◌, false, ℕ, ◌≤◌, T};
 ghost use Rattle.tags.specs.Tags.{proper_if_present};
 ghost use Rattle.records.specs.Numbers.{phase_number};
@@ -15,7 +17,7 @@ ghost use Rattle.publication.specs.Revise.{revised_of, unprobed_of};
 use state::{ABSENT, Completion, Coordination, Decided, Gate, Next, Parts};
 use tags::{OptionalTag, Tag};
 
-#[derive(Drop)]
+#[derive(Clone, Copy)]
 pub struct Announced {
     // Whether all are published, so that Publish is emitted and the stored acquisition dropped.
     pub announces: bool,

@@ -1,6 +1,8 @@
 // The queries (state.rs: revision, phase, is_stopped, first_failure, grant_horizon, candidate, pending_publication, idle_confirmation_revision;
 // document 01, "Settled", the completed frontier and the generation). None changes the state or takes room. They refuse only 27, and then answer
 // 0, Active, no, absent or unknown.
+#![tactic(auto)]
+
 ghost use Rattle.std.specs.Prelude.{◌≡◌, false, cond, not, ◌&&◌, eqb};
 ghost use Rattle.tags.specs.Tags.{is_present};
 ghost use Rattle.records.specs.Numbers.{phase_number};
@@ -20,56 +22,56 @@ use state::{Completion, Coordination, FederateCoordinationState};
 use tags::{OptionalTag, Tag};
 
 // The candidate of an enclave, unknown where it is no participant.
-#[derive(Drop)]
+#[derive(Clone, Copy)]
 pub enum FoundCandidate {
     Unknown,
     Known(OptionalTag),
 }
 
 // What a query answers: `Taken` or why it was refused, and what was asked for.
-#[derive(Drop)]
+#[derive(Clone, Copy)]
 pub struct NumberAnswer {
     pub refusal: Refusal,
     pub answer: u64,
 }
 
-#[derive(Drop)]
+#[derive(Clone, Copy)]
 pub struct BoolAnswer {
     pub refusal: Refusal,
     pub answer: bool,
 }
 
-#[derive(Drop)]
+#[derive(Clone, Copy)]
 pub struct PhaseAnswer {
     pub refusal: Refusal,
     pub answer: CoordinationPhase,
 }
 
-#[derive(Drop)]
+#[derive(Clone, Copy)]
 pub struct EnclaveAnswer {
     pub refusal: Refusal,
     pub answer: OptionalEnclave,
 }
 
-#[derive(Drop)]
+#[derive(Clone, Copy)]
 pub struct TagAnswer {
     pub refusal: Refusal,
     pub answer: OptionalTag,
 }
 
-#[derive(Drop)]
+#[derive(Clone, Copy)]
 pub struct RevisionAnswer {
     pub refusal: Refusal,
     pub answer: OptionalNumber,
 }
 
-#[derive(Drop)]
+#[derive(Clone, Copy)]
 pub struct PublicationAnswer {
     pub refusal: Refusal,
     pub answer: OptionalPublication,
 }
 
-#[derive(Drop)]
+#[derive(Clone, Copy)]
 pub struct CandidateAnswer {
     pub refusal: Refusal,
     pub answer: FoundCandidate,

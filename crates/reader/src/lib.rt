@@ -1,11 +1,13 @@
 // The reader of a script (document 01, "Script and its listing"): "The reader holds the script and its place, and hands out each line as that part of the
 // script." New here: the Rust has no scripts. It refuses nothing: past the script every line is empty. The functions over the reader are thin: each takes it
 // apart and leaves the work to a function on the script and a place; `line_from` and `place_after` serve whoever has these two in hand.
+#![tactic(auto)]
+
 ghost use Rattle.std.specs.Prelude.{◌≡◌, leb, ltb, length};
 ghost use Rattle.reader.specs.Lines.{end_of, line_at, next_at};
 
 // The script, and the place in it where the next line begins.
-#[derive(Drop)]
+#[derive(Clone, Copy)]
 pub struct Reader<'a> {
     pub script: &'a [u8],
     pub at: usize,

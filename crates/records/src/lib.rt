@@ -1,5 +1,7 @@
 // Records (backend.rs, and the enums and messages of state.rs): what goes in and out of the coordination state, and the
 // numbers that document 01 gives to their kinds. Every function is total and refuses nothing.
+#![tactic(auto)]
+
 ghost use Rattle.std.specs.Prelude.{◌≡◌};
 ghost use Rattle.records.specs.Numbers.{next_revision, policy_number, phase_number, observation_number, verdict_number, message_number, action_number, refusal_number};
 
@@ -11,21 +13,21 @@ pub type CoordinationRevision = u64;
 pub type EnclaveIndex = u32;
 
 // A revision or a generation where the Rust has an `Option` of it.
-#[derive(Drop)]
+#[derive(Clone, Copy)]
 pub enum OptionalNumber {
     NoNumber,
     Number(u64),
 }
 
 // An enclave where the Rust has an `Option<EnclaveIndex>`.
-#[derive(Drop)]
+#[derive(Clone, Copy)]
 pub enum OptionalEnclave {
     NoEnclave,
     Enclave(EnclaveIndex),
 }
 
 // A federate's revision with its next event and the horizon that it had accepted, absent if none.
-#[derive(Drop)]
+#[derive(Clone, Copy)]
 pub struct FederatePublication {
     pub revision: CoordinationRevision,
     pub next_event: OptionalTag,
@@ -33,35 +35,35 @@ pub struct FederatePublication {
 }
 
 // A publication where the Rust has an `Option<FederatePublication>`.
-#[derive(Drop)]
+#[derive(Clone, Copy)]
 pub enum OptionalPublication {
     NonePending,
     Pending(FederatePublication),
 }
 
 // A tag granted to a revision.
-#[derive(Drop)]
+#[derive(Clone, Copy)]
 pub struct FederateAcquisition {
     pub revision: CoordinationRevision,
     pub granted: Tag,
 }
 
 // A completed tag, and whether it covers processed network input.
-#[derive(Drop)]
+#[derive(Clone, Copy)]
 pub struct FederateCompletion {
     pub completed: Tag,
     pub network_input: bool,
 }
 
 // What is done when every participant has published no next event.
-#[derive(Drop)]
+#[derive(Clone, Copy)]
 pub enum LifecyclePolicy {
     KeepAlive,
     TerminateWhenIdle,
     CoordinatedTermination,
 }
 
-#[derive(Drop)]
+#[derive(Clone, Copy)]
 pub enum CoordinationPhase {
     Active,
     Probing,
@@ -73,14 +75,14 @@ pub enum CoordinationPhase {
 }
 
 // One participant's acknowledgement of a fixed-point phase.
-#[derive(Drop)]
+#[derive(Clone, Copy)]
 pub enum Observation {
     Probed,
     Parked,
     Rechecked,
 }
 
-#[derive(Drop)]
+#[derive(Clone, Copy)]
 pub enum SchedulerMessage {
     Active {
         enclave: EnclaveIndex,
@@ -106,7 +108,7 @@ pub enum SchedulerMessage {
     },
 }
 
-#[derive(Drop)]
+#[derive(Clone, Copy)]
 pub enum CoordinationAction {
     Publish(FederatePublication),
     AdvanceHorizon {
@@ -139,7 +141,7 @@ pub enum CoordinationAction {
 }
 
 // What becomes of an observation in a phase.
-#[derive(Drop)]
+#[derive(Clone, Copy)]
 pub enum Verdict {
     Counts,
     Ignored,
@@ -147,7 +149,7 @@ pub enum Verdict {
 }
 
 // What a call says besides its actions: begin, late and done answer no or yes, every other call nothing.
-#[derive(Drop)]
+#[derive(Clone, Copy)]
 pub enum Answer {
     Silent,
     No,
@@ -155,7 +157,7 @@ pub enum Answer {
 }
 
 // Document 01, "Ceilings and refusals": a phrase for each number. `Taken` is 0.
-#[derive(Drop)]
+#[derive(Clone, Copy)]
 pub enum Refusal {
     Taken,
     NoParticipants,

@@ -1,5 +1,7 @@
 // replay: recorded scripts from standard input, each after its length (docs/COMPARISON.md says how they were made). Each is run and its listing written to standard
 // output, which the gate compares with the listings that the unchanged Rust gave, byte by byte.
+#![tactic(auto)]
+
 
 // Room for a script of more bytes than one may have, and for the listing of ten events at a time.
 fn room() -> [u8; 66000] {

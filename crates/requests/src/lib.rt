@@ -1,7 +1,9 @@
 // The calls of the rig host besides the scheduler's messages, by value: one call for those that take room, one for those of the gate that change the
 // state, and the parts of an answer. Each request and change is handed to the call that it names, which refuses what it refuses.
+#![tactic(auto)]
+
 ghost use Rattle.std.specs.Prelude.{◌≡◌, length};
-ghost use Rattle.bytes.specs.Runs.{put_at};
+ghost use Rattle.octets.specs.Runs.{put_at};
 ghost use Rattle.actions.specs.Record.{records_of};
 ghost use Rattle.calls.specs.Called.{lent, actions_of, Promised};
 ghost use Rattle.requests.specs.Named.{request_of, change_of};
@@ -14,7 +16,7 @@ use state::FederateCoordinationState;
 use tags::{OptionalTag, Tag};
 
 // A call that takes room and is no scheduler message.
-#[derive(Drop)]
+#[derive(Clone, Copy)]
 pub enum Request {
     Acquisition(FederateAcquisition),
     PublicationSent(FederatePublication),
@@ -25,7 +27,7 @@ pub enum Request {
 }
 
 // A call of the gate that changes the state.
-#[derive(Drop)]
+#[derive(Clone, Copy)]
 pub enum Change {
     InputHorizon(OptionalTag),
     BeginTag(EnclaveIndex, Tag),

@@ -1,8 +1,10 @@
 // The rig host's one state, lent and updated (document 01, "&mut state wrappers that copy out, call the by-value step and store the result"): one call for
 // the scheduler's messages, one for the other calls that take room, one for those of the gate that change the state. Each promises, of what stands behind
 // the state at its end, of the reply and of the room, what the by-value call promises; a refused call leaves all three as they were.
+#![tactic(auto)]
+
 ghost use Rattle.std.specs.Prelude.{◌≡◌, length};
-ghost use Rattle.bytes.specs.Runs.{put_at};
+ghost use Rattle.octets.specs.Runs.{put_at};
 ghost use Rattle.actions.specs.Record.{records_of};
 ghost use Rattle.dispatch.specs.Messages.{call_of};
 ghost use Rattle.calls.specs.Called.{lent, actions_of};

@@ -2,6 +2,8 @@
 // played on several openings, and after each call every cell of the state, the reply and every byte of the room are compared, and where it was refused
 // also the state with the one before it. One line a play: per call its refusal and action count, then `=` where all agree and `!` where not; at last how
 // many did. The last line shows that the comparison tells states apart which differ in one cell.
+#![tactic(auto)]
+
 mod row;
 
 use calls::{Called, Reply};
@@ -20,7 +22,7 @@ fn say_number(number: u64) {
 }
 
 // The state, and how many calls there were and agreed.
-#[derive(Drop)]
+#[derive(Clone, Copy)]
 struct Played {
     state: FederateCoordinationState,
     calls: usize,
@@ -47,7 +49,7 @@ fn agree(
     let taken = records::refusal_number(refusal) == 0;
     same_answers(lent, valued)
         & (taken | same_states(before, lent.state))
-        & bytes::same_bytes(room, other_room)
+        & octets::same_bytes(room, other_room)
 }
 
 fn say_reply(reply: Reply, agreed: bool) {

@@ -6,7 +6,7 @@ use records::{
 use requests::{Change, Request};
 use tags::{OptionalTag, Tag};
 
-#[derive(Drop)]
+#[derive(Clone, Copy)]
 pub struct Row {
     pub kind: u8,
     pub named: bool,
@@ -34,7 +34,7 @@ fn tag_of(byte: u8) -> OptionalTag {
         });
     }
     OptionalTag::At(Tag {
-        seconds: bytes::signed64(digit(byte) as u64),
+        seconds: octets::signed64(digit(byte) as u64),
         nanoseconds: 0,
         microstep: 0,
     })

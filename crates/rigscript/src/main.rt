@@ -1,4 +1,6 @@
 // rigscript (document 01, "Script and its listing"): a script on standard input, at most 4,096 of its events run, the listing on standard output.
+#![tactic(auto)]
+
 use libc::STDIN_FILENO;
 
 // One byte more than a script may have, so that a longer one shows.

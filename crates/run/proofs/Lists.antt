@@ -7,8 +7,8 @@ use Prim.Native.Nat.{ℕ, ◌+◌, ◌*◌, ◌≤◌}
 use native.Mathlib.Omega.{arith}
 use lib.ListN.{length, drop}
 use Rattle.records.specs.Numbers.{refusal_number}
-use Rattle.bytes.specs.Runs.{put_at}
-use Rattle.bytes.proofs.Runs.{length-put}
+use Rattle.octets.specs.Runs.{put_at}
+use Rattle.octets.proofs.Runs.{length-put}
 use Rattle.actions.specs.Record.{records_of}
 use Rattle.actions.specs.Demands.{Writable}
 use Rattle.rules.specs.Model.{Call}

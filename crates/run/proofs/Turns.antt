@@ -6,8 +6,8 @@ use mathlib.Core.List.{List, [], ◌∷◌, ◌++◌}
 use Prim.Native.Nat.{ℕ, suc, ◌+◌, ◌-◌, ◌*◌, ◌≤◌, ◌<◌}
 use native.Mathlib.Omega.{arith}
 use lib.ListN.{length, length-append}
-use Rattle.bytes.specs.Runs.{put_at}
-use Rattle.bytes.proofs.Runs.{put-append, put-nil, length-put}
+use Rattle.octets.specs.Runs.{put_at}
+use Rattle.octets.proofs.Runs.{put-append, put-nil, length-put}
 use Rattle.rules.specs.Model.{Call}
 use Rattle.state.specs.declared.FederateCoordinationState.{FederateCoordinationState as Held}
 use Rattle.calls.proofs.Ends.{no_way}

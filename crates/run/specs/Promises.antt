@@ -1,7 +1,7 @@
 -- What a run from a place promises. Assumes nothing.
 use Rattle.std.specs.Prelude.{◌≡◌, true, false, List, ℕ, ◌+◌, ◌-◌, length}
 use Rattle.std.proofs.Math.Option.{Option, none, some}
-use Rattle.bytes.specs.Runs.{put_at}
+use Rattle.octets.specs.Runs.{put_at}
 use Rattle.rules.specs.Model.{Call}
 use Rattle.state.specs.declared.FederateCoordinationState.{FederateCoordinationState as Held}
 use Rattle.calls.specs.Called.{state_of}

@@ -1,5 +1,7 @@
 // A script run with an event budget (document 01, "Script and its listing"): each event is read again from its line, taken by its call and listed into lent
 // room. A run takes the lesser of its budget and of the events left, and no more than the room surely holds; refused events count.
+#![tactic(auto)]
+
 ghost use Rattle.std.specs.Prelude.{◌+◌, ◌≤◌, length};
 ghost use Rattle.events.specs.Events.{event_of};
 ghost use Rattle.events.specs.Told.{told_event};
@@ -10,7 +12,7 @@ use events::Event;
 use state::FederateCoordinationState;
 
 // A script's run: the state, the place of the next event's line, how many events the script has, and how many are left.
-#[derive(Drop)]
+#[derive(Clone, Copy)]
 pub struct Running {
     pub state: FederateCoordinationState,
     pub at: usize,
@@ -19,7 +21,7 @@ pub struct Running {
 }
 
 // What a run came to: the run from there on, the number of events taken and of bytes written.
-#[derive(Drop)]
+#[derive(Clone, Copy)]
 pub struct Ran {
     pub rest: Running,
     pub taken: usize,
@@ -27,14 +29,14 @@ pub struct Ran {
 }
 
 // An event taken by its call, and where its lines end.
-#[derive(Drop)]
+#[derive(Clone, Copy)]
 struct Listed {
     state: FederateCoordinationState,
     written: usize,
 }
 
 // One event taken, if there is one, and where its lines end.
-#[derive(Drop)]
+#[derive(Clone, Copy)]
 struct Stepped {
     moved: bool,
     state: FederateCoordinationState,

@@ -5,7 +5,7 @@ use mathlib.Core.List.{List, ◌∷◌}
 use mathlib.Core.Option.{none}
 use Prim.Native.Nat.{ℕ, ◌+◌, ◌-◌, ◌<◌, ◌≤◌}
 use lib.ListN.{length, take, drop}
-use Rattle.bytes.specs.Runs.{same_bytes}
+use Rattle.octets.specs.Runs.{same_bytes}
 use Rattle.numerals.specs.Numerals.{split, space, number_of}
 use Rattle.numerals.specs.Told.{until}
 use Rattle.numerals.proofs.Splits.{part-rest, split-whole, split_at, split-some}

@@ -10,7 +10,7 @@ use borrow.Author.Tests.{lt-ltb, le-ltb, eq-eqb, ne_eqb}
 use lib.ListN.{length, replicate}
 use Rattle.records.specs.declared.Refusal.TheVariants.{Taken, ScriptOutOfForm, ScriptTooLong}
 use Rattle.rules.specs.Model.{LifecyclePolicy, KeepAlive, TerminateWhenIdle, CoordinatedTermination, Call}
-use Rattle.bytes.specs.Runs.{same_bytes}
+use Rattle.octets.specs.Runs.{same_bytes}
 use Rattle.numerals.specs.Numerals.{text}
 use Rattle.events.specs.Events.{word_of, wide_of, event_of}
 use Rattle.events.specs.Told.{padded}

@@ -1,6 +1,8 @@
 // Scripts (document 01, "Script and its listing"): the reading of a script's three sections, line by line from its reader.
 // New here: the Rust has no scripts. Over 65,536 bytes are refused 12, and 11 names the place of the first bad line. The events are
 // read for their form alone: a run reads them again, line by line, from `events_at` on.
+#![tactic(auto)]
+
 ghost use Rattle.std.specs.Prelude.{◌≡◌, List, ℕ, ◌-◌, ◌^◌, ◌≤◌, length, set, replicate};
 ghost use Rattle.numerals.specs.Numerals.{number_of};
 ghost use Rattle.numerals.specs.Told.{told_number};
@@ -16,7 +18,7 @@ use records::{LifecyclePolicy, OptionalNumber, Refusal};
 
 // `Taken` and what the script says, its events by their place and number; or why it is refused and, for 11, at which place.
 // Of the participants the first 33 are kept: at most 32 open, and a thirty-third says that there are too many.
-#[derive(Drop)]
+#[derive(Clone, Copy)]
 pub struct ReadScript {
     pub refusal: Refusal,
     pub place: usize,
@@ -30,28 +32,28 @@ pub struct ReadScript {
 }
 
 // A line that tells a number, with the place after it.
-#[derive(Drop)]
+#[derive(Clone, Copy)]
 enum Counted {
     BadLine,
     Count(u64, usize),
 }
 
 // A line that tells a policy, with the place after it.
-#[derive(Drop)]
+#[derive(Clone, Copy)]
 enum Chosen {
     NoChoice,
     Choice(LifecyclePolicy, usize),
 }
 
 // Lines passed over: the place of a bad one, or the place after them.
-#[derive(Drop)]
+#[derive(Clone, Copy)]
 enum Passed {
     BadAt(usize),
     EndsAt(usize),
 }
 
 // The participants' lines passed over, with the first 33 of their indices.
-#[derive(Drop)]
+#[derive(Clone, Copy)]
 struct Participants {
     passed: Passed,
     indices: [u32; 33],
@@ -73,7 +75,7 @@ fn header(line: &[u8], word: &[u8], most: u64) -> OptionalNumber
     if second < rest.len() {
         return OptionalNumber::NoNumber;
     }
-    if bytes::same_bytes(&line[..first], word) {
+    if octets::same_bytes(&line[..first], word) {
         return numerals::number(rest, most);
     }
     OptionalNumber::NoNumber
@@ -138,13 +140,13 @@ fn policy_at(script: &[u8], at: usize) -> Chosen
     }
     let line = reader::line_from(script, at);
     let next = reader::place_after(script, at);
-    if bytes::same_bytes(line, b"keep") {
+    if octets::same_bytes(line, b"keep") {
         return Chosen::Choice(LifecyclePolicy::KeepAlive, next);
     }
-    if bytes::same_bytes(line, b"terminate") {
+    if octets::same_bytes(line, b"terminate") {
         return Chosen::Choice(LifecyclePolicy::TerminateWhenIdle, next);
     }
-    if bytes::same_bytes(line, b"coordinated") {
+    if octets::same_bytes(line, b"coordinated") {
         return Chosen::Choice(LifecyclePolicy::CoordinatedTermination, next);
     }
     Chosen::NoChoice

@@ -1,6 +1,6 @@
 -- Document 01, "Script and its listing": the last line of a listing, the line of a refusal, and the whole listing of a script. Assumes nothing.
 use Rattle.std.specs.Prelude.{ℕ, ◌≡◌, false, cond, List, ◌++◌, eqb, ltb, length, take}
-use Rattle.bytes.specs.Runs.{put_at}
+use Rattle.octets.specs.Runs.{put_at}
 use Rattle.rules.specs.Model.{NoTag, Active}
 use Rattle.rules.specs.Opening.{opening_refusal}
 use Rattle.rules.specs.Queries.{is_settled}

@@ -1,5 +1,7 @@
 // A script's listing before and after its run (document 01, "Script and its listing"): the script opened, the line of its refusal, and the last line. New here:
 // the Rust has no scripts. Refused as scripts are, 12, 11 with its place, then as the opening; a room too small for the line is left as it is.
+#![tactic(auto)]
+
 ghost use Rattle.records.specs.Numbers.{refusal_number};
 ghost use Rattle.session.specs.Open.{OpensScript};
 ghost use Rattle.session.specs.Listing.{refusal_line, last_line, Lists};
@@ -10,7 +12,7 @@ use state::FederateCoordinationState;
 use tags::OptionalTag;
 
 // A script opened: `Taken` and where its run begins; or why it was refused and, for 11, at which place.
-#[derive(Drop)]
+#[derive(Clone, Copy)]
 pub struct Opened {
     pub refusal: Refusal,
     pub place: usize,

@@ -2,6 +2,8 @@
 // The Rust has no such test: its types hold nothing else. The calls that come with every tag lend the columns, so that none is copied (`is_sound_with`); the
 // others hand the state over.
 // Every function is total and refuses nothing.
+#![tactic(auto)]
+
 ghost use Rattle.std.specs.Prelude.{◌≡◌, ◌&&◌, ◌≤◌, ◌<◌, leb, ltb};
 ghost use Rattle.tags.specs.Tags.{◌≡ₜ◌};
 ghost use Rattle.rules.specs.Calls.{is_sound};

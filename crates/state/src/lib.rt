@@ -1,6 +1,8 @@
 // The state as the code holds it: plain numbers throughout, so that a host can keep it as it is. The participants stand at the first `count`
 // places of the columns, by ascending index. An absent tag is `ABSENT`, which no proper tag is; an absent number is 0 with its flag false.
 // Every function is total and refuses nothing.
+#![tactic(auto)]
+
 ghost use Rattle.std.specs.Prelude.{◌≡◌};
 ghost use Rattle.state.specs.Cells.{absent, is_absent, cell_of, optional_of};
 ghost use Rattle.state.specs.Parts.{without_pending};
@@ -14,7 +16,7 @@ pub const STARTED: usize = 64;
 
 // Revision, phase, idle authorization and pending publication.
 #[repr(C)]
-#[derive(Drop)]
+#[derive(Clone, Copy)]
 pub struct Coordination {
     pub phase: u8,
     pub authorized: bool,
@@ -28,7 +30,7 @@ pub struct Coordination {
 
 // Frontier, pending pair of network inputs, generation and probe of completion.
 #[repr(C)]
-#[derive(Drop)]
+#[derive(Clone, Copy)]
 pub struct Completion {
     pub completed_frontier: Tag,
     pub first_input: Tag,
@@ -39,7 +41,7 @@ pub struct Completion {
 
 // Input horizon, stored acquisition, and the tag granted to every participant: an acquisition grants one tag to all, an input notice drops it for all.
 #[repr(C)]
-#[derive(Drop)]
+#[derive(Clone, Copy)]
 pub struct Gate {
     pub input_horizon: Tag,
     pub stored_revision: u64,
@@ -48,7 +50,7 @@ pub struct Gate {
 }
 
 #[repr(C)]
-#[derive(Drop)]
+#[derive(Clone, Copy)]
 pub struct FederateCoordinationState {
     pub count: usize,
     pub enclaves: [u32; 32],
@@ -72,7 +74,7 @@ pub struct FederateCoordinationState {
 }
 
 // The cells of one participant that a scheduler message can change.
-#[derive(Drop)]
+#[derive(Clone, Copy)]
 pub struct Row {
     pub published: bool,
     pub candidate: Tag,
@@ -82,7 +84,7 @@ pub struct Row {
 }
 
 // What a scheduler message's own rule can change, the observations and the stored acquisition aside.
-#[derive(Drop)]
+#[derive(Clone, Copy)]
 pub struct Parts {
     pub row: Row,
     pub coordination: Coordination,
@@ -92,7 +94,7 @@ pub struct Parts {
 }
 
 // How a scheduler message's own rule goes on once its parts are stored.
-#[derive(Drop)]
+#[derive(Clone, Copy)]
 pub enum Next {
     // It says the action of this kind, or none if 0.
     Says(u8),
@@ -103,7 +105,7 @@ pub enum Next {
 }
 
 // The first half of a scheduler message's own rule.
-#[derive(Drop)]
+#[derive(Clone, Copy)]
 pub struct Decided {
     pub parts: Parts,
     // Whether all observations are cleared.

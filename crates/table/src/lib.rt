@@ -1,5 +1,7 @@
 // The participant table: questions to the columns of a state, and cells cleared (state.rs: the walks over `participants`).
 // The columns are lent, so that nothing is copied. Every function refuses nothing; a place or a count beyond the columns is the caller's to exclude.
+#![tactic(auto)]
+
 ghost use Rattle.std.specs.Prelude.{◌≡◌, false, cond, not, ◌||◌, ◌+◌, ◌≤◌, ◌<◌, eqb, get_or, set};
 ghost use Rattle.tags.specs.Tags.{is_present, lesser_of, greater_of, lesser_of_both, is_below, is_at_or_below};
 ghost use Rattle.rules.specs.Model.{NoTag};
@@ -225,7 +227,7 @@ pub fn put_microsteps(microsteps: &mut [u64; 96], place: usize, row: Row)
 }
 
 // How the participants that lag behind a new frontier stand to it.
-#[derive(Drop)]
+#[derive(Clone, Copy)]
 pub enum Scanned {
     // One of them is unpublished or has a candidate at or below it.
     Blocked,

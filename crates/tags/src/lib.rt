@@ -1,5 +1,7 @@
 // Tags (document 01, "Tags"; time.rs): the type, its order, properness, and tags that may be absent.
 // Every function is total and refuses nothing; `delay` stands in a crate of its own.
+#![tactic(auto)]
+
 ghost use Rattle.std.specs.Prelude.{◌≡◌};
 ghost use Rattle.std.specs.Int.Signed.{lt_z};
 ghost use Rattle.tags.specs.Tags.{◌≤ₜ◌, ◌≡ₜ◌, lesser_of, greater_of, never, zero, forever, within_second, opposite_signs, proper_time, is_proper};
@@ -8,7 +10,7 @@ ghost use Rattle.tags.specs.Tags.{lesser_present, greater_present, lesser_of_bot
 
 // A point of logical time: an offset from the origin, and a step at it.
 #[repr(C)]
-#[derive(Drop)]
+#[derive(Clone, Copy)]
 pub struct Tag {
     // Whole seconds from the origin of logical time.
     pub seconds: i64,
@@ -19,7 +21,7 @@ pub struct Tag {
 }
 
 // A tag where the Rust has an `Option<Tag>`.
-#[derive(Drop)]
+#[derive(Clone, Copy)]
 pub enum OptionalTag {
     NoTag,
     At(Tag),

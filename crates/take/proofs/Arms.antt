@@ -10,8 +10,8 @@ use lib.Dec.{T, leb, eqb}
 use lib.ListN.{length, take}
 use lib.Seq.{take_all}
 use borrow.Author.Tests.{le-leb, lt-leb, eqb-true}
-use Rattle.bytes.specs.Runs.{put_at}
-use Rattle.bytes.proofs.Runs.{put-nil}
+use Rattle.octets.specs.Runs.{put_at}
+use Rattle.octets.proofs.Runs.{put-nil}
 use Rattle.actions.specs.Record.{records_of}
 use Rattle.rules.specs.Model.{Tag, OptionalTag, Silent, State, Call, Given, horizon, begin, late, done, input}
 use Rattle.rules.specs.Walk.{quiet}

@@ -2,7 +2,7 @@
 use Rattle.std.specs.Prelude.{◌≡◌, List, ℕ, length}
 use Rattle.std.proofs.Math.Option.{Option, none, some}
 use Rattle.records.specs.declared.Refusal.TheVariants.{ScriptOutOfForm}
-use Rattle.bytes.specs.Runs.{put_at}
+use Rattle.octets.specs.Runs.{put_at}
 use Rattle.actions.specs.Record.{records_of}
 use Rattle.rules.specs.Model.{Silent, Call}
 use Rattle.state.specs.declared.FederateCoordinationState.{FederateCoordinationState as Held}

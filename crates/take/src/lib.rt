@@ -1,5 +1,7 @@
 // An event taken by the call that it tells (document 01, "Script and its listing": the seventeen events). Total: what is no event is answered
 // with 11 and changes nothing.
+#![tactic(auto)]
+
 ghost use Rattle.events.specs.Told.{told_event};
 ghost use Rattle.take.specs.Takes.{Takes};
 

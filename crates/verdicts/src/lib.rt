@@ -1,4 +1,6 @@
 // The observation verdicts (document 01, "looked up in a table of seven phases by three observations"; state.rs: handle_observation). Nothing is refused here.
+#![tactic(auto)]
+
 ghost use Rattle.std.specs.Prelude.{◌≡◌, ◌≤◌};
 ghost use Rattle.rules.specs.Observation as rules;
 ghost use Rattle.state.specs.Cells.{phase_of};

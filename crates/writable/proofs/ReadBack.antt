@@ -11,7 +11,7 @@ use mir.Syntax.{w32, w64}
 use mir.Val.{Fits}
 use mir.Facts.{Fits-lit, Fits-below}
 use Rattle.tags.specs.Tags.{is_proper, proper_if_present}
-use Rattle.bytes.specs.Runs.{put_at}
+use Rattle.octets.specs.Runs.{put_at}
 use Rattle.actions.specs.Record.{fields_of, records_of}
 use Rattle.actions.specs.Demands.{FitsTag, FitsOptional, Writable}
 use Rattle.actions.proofs.RoundTrip.{read-write-each}

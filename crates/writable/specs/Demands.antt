@@ -6,7 +6,7 @@ use Rattle.std.specs.Int.{w64}
 use Rattle.std.proofs.Common.{Fits}
 use Rattle.records.specs.declared.SchedulerMessage.{SchedulerMessage}
 use Rattle.records.specs.declared.SchedulerMessage.TheVariants as message
-use Rattle.bytes.specs.Runs.{put_at}
+use Rattle.octets.specs.Runs.{put_at}
 use Rattle.actions.specs.Record.{records_of}
 use Rattle.actions.specs.Reading.{read_action}
 use Rattle.actions.specs.Demands.{FitsTag, FitsOptional, Writable}

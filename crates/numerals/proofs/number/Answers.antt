@@ -1,0 +1,22 @@
+-- `numerals::number` meets its contract: no digit, a zero before another, and what `digits` promises of all else. Assumes nothing.
+use mathlib.Core.Path.{◌∙◌}
+use mathlib.Core.Logic.{⊎_elim}
+use native.Mathlib.Omega.{arith}
+use borrow.Author.Rules.{rules}
+use Rattle.numerals.proofs.Numbers.{number-none, number-zero, number-one, number_more}
+use Rattle.numerals.proofs.number.Goals as goal
+
+pub returns-then-t-eq0 : goal.returns-then-t-eq0
+returns-then-t-eq0 c = let a = c.args in number-none a.most a.t.now c.if-t-eq0.true
+
+pub returns-then-t-eq48 : goal.returns-then-t-eq48
+returns-then-t-eq48 c = let a = c.args in
+    number-zero a.most a.t.now (omega arith) c.if-t-eq48.true
+
+pub returns : goal.returns
+returns c = let a = c.args in
+    c.digits.ensures
+    ∙ ⊎_elim
+    (λ w. number_more a.most a.t.now (omega arith) w.2.left)
+    (λ w. number-one a.most a.t.now (omega arith))
+    c.if-t-gt1.branch
