@@ -1,10 +1,7 @@
 -- `numerals::digits` meets its contract. The invariant: what the rest spells after n is what all spells. Assumes nothing.
-use Prim.Native.Nat.{◌-◌, ◌≤◌}
-use mathlib.Core.Path.{◌≡◌, refl, ◌∙◌}
+use mathlib.Core.Path.{◌∙◌}
 use native.Mathlib.Omega.{arith}
-use lib.ListN.{length, drop}
-use Rattle.numerals.specs.Told.{digits_of}
-use Rattle.numerals.proofs.Numbers.{digits-end, digits_low, digits-high, digits-over, digits_more}
+use Rattle.numerals.proofs.Numbers.{digits-over}
 use Rattle.numerals.proofs.digits.Goals as goal
 
 pub returns-then-most-d : goal.returns-then-most-d

@@ -1,9 +1,7 @@
 use Prim.Native.Nat.{◌-◌, ◌≤◌}
-use mathlib.Core.Path.{◌≡◌, refl, ◌∙◌}
-use native.Mathlib.Omega.{arith}
+use mathlib.Core.Path.{◌≡◌}
 use lib.ListN.{length, drop}
 use Rattle.numerals.specs.Told.{digits_of}
-use Rattle.numerals.proofs.Numbers.{digits-end, digits_low, digits-high, digits-over, digits_more}
 use Rattle.numerals.proofs.digits.Given as goal
 
 abbrev pub invariant-loop-i : goal.invariant-loop-i

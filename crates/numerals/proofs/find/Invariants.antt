@@ -1,9 +1,7 @@
 use Prim.Native.Nat.{◌+◌, ◌-◌, ◌≤◌}
 use mathlib.Core.Path.{◌≡◌}
-use native.Mathlib.Omega.{arith}
 use lib.ListN.{length, drop}
 use Rattle.numerals.specs.Told.{until}
-use Rattle.numerals.proofs.Splits.{until-here, until-later, until_end}
 use Rattle.numerals.proofs.find.Given as goal
 
 abbrev pub invariant-loop-i : goal.invariant-loop-i

@@ -1,7 +1,6 @@
 -- `numerals::integer` meets its contract, by its first byte. Assumes nothing.
 use mathlib.Core.Path.{◌∙◌}
 use native.Mathlib.Omega.{arith}
-use borrow.Author.Rules.{rules}
 use Rattle.numerals.proofs.Splits.{part-rest}
 use Rattle.numerals.proofs.Integers.{integer-none, integer-minus, integer-plain}
 use Rattle.numerals.proofs.integer.Goals as goal

@@ -1,21 +1,15 @@
 -- `numerals::negative` meets its contract: none for what is no number and for 0, and else the bits of the negative (Integers). Assumes nothing.
 use mathlib.Core.Path.{ap, sym, ◌∙◌}
 use native.Mathlib.Omega.{arith}
-use borrow.Author.Rules.{rules}
-use Rattle.numerals.specs.Numerals.{negated}
 use Rattle.numerals.specs.Told.{told_number}
 use Rattle.numerals.proofs.Numbers.{number-le}
 use Rattle.numerals.proofs.Integers.{neg_is}
 use Rattle.numerals.proofs.negative.Goals as goal
 
 pub overflow_cast-result : goal.overflow_cast-result
-overflow_cast-result c = let a = c.args in
-    let n = c.n-1.given in
-    let e = sym c.number-n.ensures ∙ ap told_number n.1 in
-    record { sfits = omega (arith, number-le a.half a.t.now n.0.0 e) }
+overflow_cast-result c = let e = sym c.number-n.ensures ∙ ap told_number c.in-Number.is in
+    record { sfits = omega (arith, number-le c.args.half c.args.t.now c.in-Number.k e) }
 
 pub returns-else-k-eq0 : goal.returns-else-k-eq0
-returns-else-k-eq0 c = let a = c.args in
-    let n = c.n-1.given in
-    let e = sym c.number-n.ensures ∙ ap told_number n.1 in
-    rw e (neg_is n.0.0 c.if-k-eq0.false (omega (arith, number-le a.half a.t.now n.0.0 e)))
+returns-else-k-eq0 c = let e = sym c.number-n.ensures ∙ ap told_number c.in-Number.is in
+    rw e (neg_is c.in-Number.k c.if-k-eq0.false (omega (arith, number-le c.args.half c.args.t.now c.in-Number.k e)))

@@ -1,6 +1,5 @@
 -- `numerals::optional_tag` meets its contract: `-`, and else what `tag` promises. Assumes nothing.
 use mathlib.Core.Path.{ap, sym, ◌∙◌}
-use borrow.Author.Rules.{rules}
 use Rattle.numerals.specs.Numerals.{optional_tag_of}
 use Rattle.numerals.specs.Told.{told_tag}
 use Rattle.numerals.proofs.optional_tag.Goals as goal

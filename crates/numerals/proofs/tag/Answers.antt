@@ -1,8 +1,6 @@
 -- `numerals::tag` meets its contract: one part makes no tag, and more are told by the first colon. Assumes nothing.
-use mathlib.Core.Path.{sym, ◌∙◌}
+use mathlib.Core.Path.{◌∙◌}
 use native.Mathlib.Omega.{arith}
-use lib.Seq.{length-take-le}
-use borrow.Author.Rules.{rules}
 use Rattle.numerals.specs.Numerals.{colon, tag_of}
 use Rattle.numerals.proofs.Splits.{part-rest, split_at, split-whole}
 use Rattle.numerals.proofs.tag.Goals as goal

@@ -1,8 +1,6 @@
 -- `numerals::tag_after` meets its contract: two parts make no tag, and more are told by the first colon of the rest. Assumes nothing.
-use mathlib.Core.Path.{sym, ◌∙◌}
+use mathlib.Core.Path.{◌∙◌}
 use native.Mathlib.Omega.{arith}
-use lib.Seq.{length-take-le}
-use borrow.Author.Rules.{rules}
 use Rattle.numerals.specs.Numerals.{colon}
 use Rattle.numerals.proofs.Splits.{part-rest, split_at, split-whole}
 use Rattle.numerals.proofs.tag_after.Goals as goal

@@ -1,7 +1,6 @@
 -- `numerals::tag_of_parts` meets its contract: a further part makes no tag, and three parts are read by their widths. Assumes nothing.
 use mathlib.Core.Path.{◌∙◌}
 use native.Mathlib.Omega.{arith}
-use borrow.Author.Rules.{rules}
 use Rattle.numerals.specs.Numerals.{colon}
 use Rattle.numerals.proofs.Splits.{split-whole, four-parts}
 use Rattle.numerals.proofs.Integers.{is-narrow}
