@@ -182,7 +182,7 @@ pub fn row_at<'a>(
     place: usize,
 ) -> Row
     requires { place < 32 }
-    ensures { result ≡ record { published = get_or published.entry.now place false; candidate = tag_in seconds.now nanoseconds.now microsteps.now place; completed = tag_in seconds.now nanoseconds.now microsteps.now (32 + place); acknowledged = get_or acknowledged.now place false; completion_observed = get_or completion_observed.now place 0 } }
+    ensures { result ≡ record { published = get_or published.now place false; candidate = tag_in seconds.now nanoseconds.now microsteps.now place; completed = tag_in seconds.now nanoseconds.now microsteps.now (32 + place); acknowledged = get_or acknowledged.now place false; completion_observed = get_or completion_observed.now place 0 } }
 {
     let candidate = tag_at(seconds, nanoseconds, microsteps, place);
     let completed = tag_at(seconds, nanoseconds, microsteps, COMPLETED + place);
