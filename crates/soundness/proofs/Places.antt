@@ -1,13 +1,13 @@
 -- The walk over the places from the last: what one step of it tells of the places before. Assumes nothing.
 use mathlib.Core.Path.{◌≡◌, refl, sym, ◌∙◌}
-use mathlib.Core.Bool.{Bool, true, false, not, ◌&&◌, and-true, and-false, and_assoc}
+use mathlib.Core.Bool.{Bool, true, false, ◌&&◌, and-true, and-false, and_assoc}
 use mathlib.Core.List.{List}
 use Prim.Native.Nat.{ℕ, zero, suc, ◌+◌, ◌-◌, ◌<◌, ◌≤◌}
 use native.Mathlib.Nat.{add-zero, zero-add}
 use native.Mathlib.Omega.{arith}
 use lib.Dec.{ltb}
 use lib.ListN.{get_or}
-use borrow.Author.Tests.{lt-ltb, le-ltb, not-true, not-false}
+use borrow.Author.Tests.{lt-ltb, le-ltb}
 use Rattle.state.specs.Walk.{all_of}
 use Rattle.soundness.specs.Sound.{ceiling, rises}
 
@@ -52,8 +52,8 @@ module _ (es : List ℕ) (n : ℕ) (p : ℕ → Bool) (i : ℕ) {above : ℕ} (m
   pub index-fails : above ≤ get_or es (i - 1) 0 → false ≡ asked es n p n
   index-fails h = sym (before ∙ simp (rises_by, le-ltb (get_or es (i - 1) 0) above h, and-false))
 
-  pub place-fails : (r : Bool) → r ≡ p (i - 1) → not r ≡ true → false ≡ asked es n p n
-  place-fails r e t = sym (before ∙ simp (sym e ∙ not-true r t, and-false))
+  pub place-fails : (r : Bool) → r ≡ p (i - 1) → r ≡ false → false ≡ asked es n p n
+  place-fails r e t = sym (before ∙ simp (sym e ∙ t, and-false))
 
-  pub place-passes : get_or es (i - 1) 0 < above → (r : Bool) → r ≡ p (i - 1) → not r ≡ false → asked es n p n ≡ asked es n p (i - 1)
-  place-passes h r e t = before ∙ simp (rises_by, lt-ltb (get_or es (i - 1) 0) above h, sym e ∙ not-false r t, and-true)
+  pub place-passes : get_or es (i - 1) 0 < above → (r : Bool) → r ≡ p (i - 1) → r ≡ true → asked es n p n ≡ asked es n p (i - 1)
+  place-passes h r e t = before ∙ simp (rises_by, lt-ltb (get_or es (i - 1) 0) above h, sym e ∙ t, and-true)
