@@ -295,9 +295,10 @@ fn is_confirmed(action: CoordinationAction, s: &[u8]) -> bool
     let f = fields_of(action);
     let first = f.first;
     let second = f.second;
-    let proper = tags::proper_if_present(first);
+    let first_proper = tags::proper_if_present(first);
     let second_proper = tags::proper_if_present(second);
-    same && proper && second_proper
+    let proper = first_proper && second_proper;
+    same && proper
 }
 
 // The action whose record the first 56 bytes are, or 28 where there are fewer or they are no record of an action with proper tags.
