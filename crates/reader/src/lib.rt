@@ -63,7 +63,7 @@ fn is_past(script: &[u8], at: usize) -> bool
     script.len() <= at
 }
 
-// ---- over the reader, by hand
+// ---- over the reader
 
 // A reader of the script, from the place on.
 pub fn open_at<'a>(script: &'a [u8], at: usize) -> Reader<'a>
