@@ -1,9 +1,7 @@
 -- `numerals::number` meets its contract: no digit, a zero before another, and what `digits` promises of all else. Assumes nothing.
-use mathlib.Core.Path.{◌∙◌}
 use native.Mathlib.Omega.{arith}
 use Rattle.numerals.proofs.Numbers.{number-none, number-zero, number-one, number_more}
 use Rattle.numerals.proofs.number.Goals as goal
-use Rattle.numerals.proofs.number.Goals.{then-t-gt1+else-t-eq48, else-t-gt1}
 
 pub returns-then-t-eq0 : goal.returns-then-t-eq0
 returns-then-t-eq0 c = let a = c.args in number-none a.most a.t.now c.if-t-eq0.true
@@ -14,5 +12,6 @@ returns-then-t-eq48 c = let a = c.args in
 
 pub returns : goal.returns
 returns c = let a = c.args in
-    c.digits.ensures
-    ∙ elim c.if-t-gt1.branch [ then-t-gt1+else-t-eq48 w ↦ number_more a.most a.t.now (omega arith) w.if-t-eq48.false | else-t-gt1 w ↦ number-one a.most a.t.now (omega arith) ]
+    let more = number_more a.most a.t.now in
+    let one = number-one a.most a.t.now in
+    grind (arith, more, one)
