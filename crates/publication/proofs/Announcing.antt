@@ -1,13 +1,12 @@
 -- What `announce` answers is Publish's second half in every state that has what it was given. All published and the least candidate are walks over the
 -- columns; the least candidate is one that a cell holds, so that its own cell holds it; the phase is told by its number. Assumes nothing.
 use mathlib.Core.Path.{◌≡◌, refl, sym, ap, ◌∙◌}
-use mathlib.Core.Bool.{Bool, true, false, not, cond}
+use mathlib.Core.Bool.{Bool, true, false, cond}
 use mathlib.Core.List.{List, [], ◌∷◌}
 use Prim.Native.Nat.{ℕ}
 use lib.Dec.{T, eqb}
 use lib.IntN.{ℤ}
 use lib.ListN.{get_or}
-use borrow.Author.Tests.{not-false, not-true}
 use Rattle.records.specs.Numbers.{phase_number}
 use Rattle.rules.specs.Model.{At, CoordinatedTermination, KeepAlive, LifecyclePolicy, NoTag, OptionalTag, Probe, Tag, TerminateWhenIdle}
 use Rattle.rules.specs.Publication.{announce, idle_phase, idle_probe, least_candidate}
@@ -100,13 +99,13 @@ module _ (s : Held) (whole : T (represents s)) where
 
 module _ (ps : List Bool) (ss ns : List ℤ) (ms : List ℕ) (n : ℕ) (c : Coordination) (h : Tag) (l : ℕ) (x : Bool)
     (asked : x ≡ all_of (λ j. get_or ps j false) 0 n) where
-  pub announces-not : not x ≡ true → (s : Held) → T (represents s) → Has s ps ss ns ms n c h l → Announces s (record { announces = false; coordination = c })
+  pub announces-not : x ≡ false → (s : Held) → T (represents s) → Has s ps ss ns ms n c h l → Announces s (record { announces = false; coordination = c })
   announces-not q s whole has =
-      rw (← has.coordination) (announces-none s whole x (rw (has.published, has.count) asked) (not-true x q))
+      rw (← has.coordination) (announces-none s whole x (rw (has.published, has.count) asked) q)
 
-  pub announces-now : not x ≡ false → (t : Tag) → t ≡ cell_of (least_from (λ j. optional_of (tag_in ss ns ms j)) 0 n)
+  pub announces-now : x ≡ true → (t : Tag) → t ≡ cell_of (least_from (λ j. optional_of (tag_in ss ns ms j)) 0 n)
       → (p : ℕ) → p ≡ phase_number (idle_phase (optional_of t) (policy_of l)) → (s : Held) → T (represents s) → Has s ps ss ns ms n c h l
       → Announces s (record { announces = true; coordination = with_pending c p t h })
   announces-now q t least p phase s whole has =
       rw (phase, ← has.coordination, ← has.horizon, ← has.lifecycle)
-      (announces-all s whole x (rw (has.published, has.count) asked) (not-false x q) t (rw (has.seconds, has.nanoseconds, has.microsteps, has.count) least))
+      (announces-all s whole x (rw (has.published, has.count) asked) q t (rw (has.seconds, has.nanoseconds, has.microsteps, has.count) least))
