@@ -1,7 +1,7 @@
 -- The rules' tests and the pending pair on the cells that hold them: an optional tag by its cell, the pair of inputs by its two cells. By cases on what is absent. Assumes nothing.
 use mathlib.Core.Path.{◌≡◌, refl, sym, ap, ◌∙◌, subst}
 use mathlib.Core.Bool.{Bool, true, false, not, cond}
-use Prim.Native.Nat.{ℕ, ◌≤◌}
+use Prim.Native.Nat.{ℕ}
 use lib.Dec.{T}
 use Rattle.tags.specs.Tags.{◌≡ₜ◌, ◌≤ₜ◌, is_at_or_below, same_optional}
 use Rattle.rules.specs.Completion.{inputs_left, marked, widened}

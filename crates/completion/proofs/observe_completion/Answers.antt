@@ -1,0 +1,21 @@
+-- `completion::observe_completion` is the first half of `observed_of`, and keeps the parts neat: each return by the law of Halves for the tests on its way.
+use borrow.Author.Tests.{eq-eqb, ne_eqb}
+use Rattle.tags.specs.Branches.{is_true, is_false}
+use Rattle.completion.proofs.Halves.{observed-neat, observed-stores, observed-outdated, observed-unasked}
+use Rattle.completion.proofs.observe_completion.Goals as goal
+
+pub returns-then-generation-k-clause-step : goal.returns-then-generation-k-clause-step
+returns-then-generation-k-clause-step c e =
+    let a = c.args in
+    observed-stores e a.generation a.parts (is_false c.is_absent.ensures c.if-not-is_absent.true)
+    (eq-eqb a.generation a.parts.completion.completion_generation c.if-generation-k.true)
+
+pub returns-then-generation-k-clause-neat : goal.returns-then-generation-k-clause-neat
+returns-then-generation-k-clause-neat c = observed-neat c.args.generation c.args.parts
+
+pub returns-else-generation-k-clause-step : goal.returns-else-generation-k-clause-step
+returns-else-generation-k-clause-step c e =
+    observed-outdated e _ _ (is_false c.is_absent.ensures c.if-not-is_absent.true) (ne_eqb _ _ c.if-generation-k.false)
+
+pub returns-else-not-is_absent-clause-step : goal.returns-else-not-is_absent-clause-step
+returns-else-not-is_absent-clause-step c e = observed-unasked e _ _ (is_true c.is_absent.ensures c.if-not-is_absent.false)
