@@ -4,23 +4,26 @@ use actions::ReadAction;
 use delay::Duration;
 use records::{CoordinationAction, CoordinationPhase, LifecyclePolicy, Observation};
 use state::FederateCoordinationState;
+use std::io;
+use std::io::Write;
 use tags::Tag;
 
 // The opening of these enclaves, with its refusal shown.
-pub fn open(
+pub fn open<W: Write>(
+    out: &mut W,
     enclaves: &[u32],
     policy: LifecyclePolicy,
     generation: u64,
-) -> FederateCoordinationState {
+) -> io::Result<FederateCoordinationState> {
     let opened = opening::new(enclaves, policy, 0, generation);
     let refusal = opened.refusal;
-    say(b"opening");
-    say_number(records::refusal_number(refusal) as u64);
-    say(b"\n");
-    opened.state
+    say(out, b"opening")?;
+    say_number(out, records::refusal_number(refusal) as u64)?;
+    say(out, b"\n")?;
+    Ok(opened.state)
 }
 
-fn show_delay(tag: Tag, seconds: i64, nanoseconds: i32) {
+fn show_delay<W: Write>(out: &mut W, tag: Tag, seconds: i64, nanoseconds: i32) -> io::Result<()> {
     let offset = Duration {
         seconds,
         nanoseconds,
@@ -28,14 +31,14 @@ fn show_delay(tag: Tag, seconds: i64, nanoseconds: i32) {
     let delayed = delay::delay(tag, offset);
     let refusal = delayed.refusal;
     let moved = delayed.tag;
-    say(b"delay");
-    say_number(records::refusal_number(refusal) as u64);
-    say_tag(moved);
-    say(b"\n");
+    say(out, b"delay")?;
+    say_number(out, records::refusal_number(refusal) as u64)?;
+    say_tag(out, moved)?;
+    say(out, b"\n")
 }
 
 // P4 is the first.
-pub fn delays() {
+pub fn delays<W: Write>(out: &mut W) -> io::Result<()> {
     let start = Tag {
         seconds: 1,
         nanoseconds: 500000000,
@@ -46,64 +49,68 @@ pub fn delays() {
         nanoseconds: 999999999,
         microstep: 18446744073709551615,
     };
-    show_delay(start, 0, -600000000);
-    show_delay(start, 0, 0);
-    show_delay(start, -3, -700000000);
-    show_delay(start, 1, -1);
-    show_delay(forever, 0, 0);
-    show_delay(forever, 0, 1);
+    show_delay(out, start, 0, -600000000)?;
+    show_delay(out, start, 0, 0)?;
+    show_delay(out, start, -3, -700000000)?;
+    show_delay(out, start, 1, -1)?;
+    show_delay(out, forever, 0, 0)?;
+    show_delay(out, forever, 0, 1)
 }
 
 // 0 counts, 1 is ignored, 2 is refused.
-fn show_verdict(phase: CoordinationPhase, observation: Observation) {
+fn show_verdict<W: Write>(
+    out: &mut W,
+    phase: CoordinationPhase,
+    observation: Observation,
+) -> io::Result<()> {
     let verdict = verdicts::verdict(phase, observation);
-    say(b"verdict");
-    say_number(records::verdict_number(verdict) as u64);
-    say(b"\n");
+    say(out, b"verdict")?;
+    say_number(out, records::verdict_number(verdict) as u64)?;
+    say(out, b"\n")
 }
 
-pub fn verdicts() {
-    show_verdict(CoordinationPhase::Probing, Observation::Probed);
-    show_verdict(CoordinationPhase::Parking, Observation::Probed);
-    show_verdict(CoordinationPhase::Active, Observation::Probed);
+pub fn verdicts<W: Write>(out: &mut W) -> io::Result<()> {
+    show_verdict(out, CoordinationPhase::Probing, Observation::Probed)?;
+    show_verdict(out, CoordinationPhase::Parking, Observation::Probed)?;
+    show_verdict(out, CoordinationPhase::Active, Observation::Probed)
 }
 
 // The kind of the action that was read, or 28.
-fn say_read(bytes: &[u8]) {
+fn say_read<W: Write>(out: &mut W, bytes: &[u8]) -> io::Result<()> {
     let found = actions::read_action(bytes);
     match found {
-        ReadAction::NoActionRecord => say(b" 28"),
-        ReadAction::Action(action) => say_number(records::action_number(action) as u64),
+        ReadAction::NoActionRecord => say(out, b" 28"),
+        ReadAction::Action(action) => say_number(out, records::action_number(action) as u64),
     }
 }
 
 // Whether the record fits at the place of a room for one, and what the room then holds.
-fn show_record(place: usize, action: CoordinationAction) {
+fn show_record<W: Write>(out: &mut W, place: usize, action: CoordinationAction) -> io::Result<()> {
     let mut room = [0u8; 56];
     let fits = actions::write_action(&mut room, place, action);
-    say(b"record");
-    say_bool(fits);
-    say_read(&room);
-    say(b"\n");
+    say(out, b"record")?;
+    say_bool(out, fits)?;
+    say_read(out, &room)?;
+    say(out, b"\n")
 }
 
 // A record past the room, one of an improper tag and a good one; then bytes that are none: too few, and with an unused byte set.
-pub fn records() {
+pub fn records<W: Write>(out: &mut W) -> io::Result<()> {
     let tag = Tag {
         seconds: 1,
         nanoseconds: -1,
         microstep: 0,
     };
-    show_record(1, CoordinationAction::Stop);
-    show_record(0, CoordinationAction::AdvanceHorizon { tag });
-    show_record(0, CoordinationAction::Park { revision: 7 });
+    show_record(out, 1, CoordinationAction::Stop)?;
+    show_record(out, 0, CoordinationAction::AdvanceHorizon { tag })?;
+    show_record(out, 0, CoordinationAction::Park { revision: 7 })?;
     let short = [10u8; 55];
     let mut unused = [0u8; 56];
     unused[0] = 10;
     unused[55] = 1;
-    say(b"read");
-    say_read(&short);
-    say(b"\nread");
-    say_read(&unused);
-    say(b"\n");
+    say(out, b"read")?;
+    say_read(out, &short)?;
+    say(out, b"\nread")?;
+    say_read(out, &unused)?;
+    say(out, b"\n")
 }

@@ -2,37 +2,48 @@
 use crate::say::{say, say_bool, say_number, say_tag};
 use plain::TagNumbers;
 use state::FederateCoordinationState;
+use std::io;
+use std::io::Write;
 
-fn say_if_present(numbers: TagNumbers) {
+fn say_if_present<W: Write>(out: &mut W, numbers: TagNumbers) -> io::Result<()> {
     if numbers.present {
         let tag = numbers.tag;
-        say_tag(tag);
-        return;
+        return say_tag(out, tag);
     }
-    say(b" -");
+    say(out, b" -")
 }
 
-fn ask_one(state: FederateCoordinationState, question: u8, enclave: u32) {
+fn ask_one<W: Write>(
+    out: &mut W,
+    state: FederateCoordinationState,
+    question: u8,
+    enclave: u32,
+) -> io::Result<()> {
     let asked = asking::ask(state, question, enclave);
     let first = asked.first;
     let second = asked.second;
-    say(b";");
-    say_number(question as u64);
-    say(b":");
-    say_number(asked.refusal as u64);
-    say_bool(asked.present);
-    say_number(asked.number);
-    say_if_present(first);
-    say_if_present(second);
+    say(out, b";")?;
+    say_number(out, question as u64)?;
+    say(out, b":")?;
+    say_number(out, asked.refusal as u64)?;
+    say_bool(out, asked.present)?;
+    say_number(out, asked.number)?;
+    say_if_present(out, first)?;
+    say_if_present(out, second)
 }
 
 // Every query, with the candidate of this enclave.
-pub fn ask(case: &[u8], state: FederateCoordinationState, enclave: u32) {
+pub fn ask<W: Write>(
+    out: &mut W,
+    case: &[u8],
+    state: FederateCoordinationState,
+    enclave: u32,
+) -> io::Result<()> {
     let mut question: u8 = 1;
-    say(case);
+    say(out, case)?;
     while question < 12 {
-        ask_one(state, question, enclave);
+        ask_one(out, state, question, enclave)?;
         question += 1;
     }
-    say(b"\n");
+    say(out, b"\n")
 }

@@ -11,6 +11,8 @@ use alone::open;
 use ask::ask;
 use records::LifecyclePolicy;
 use state::FederateCoordinationState;
+use std::io;
+use std::io::Write;
 
 fn room() -> [u8; 224] {
     [0; 224]
@@ -42,25 +44,29 @@ fn built(opened: FederateCoordinationState) -> FederateCoordinationState {
 }
 
 // Built by hand, then stopped, then revived (P5).
-fn queries(opened: FederateCoordinationState) {
-    ask(b"built", built(opened), 7);
+fn queries<W: Write>(out: &mut W, opened: FederateCoordinationState) -> io::Result<()> {
+    ask(out, b"built", built(opened), 7)?;
     let stopped = stop(opened);
-    ask(b"stopped", stopped, 3);
-    ask(b"P5", revive(stopped), 9);
+    ask(out, b"stopped", stopped, 3)?;
+    ask(out, b"P5", revive(stopped), 9)
 }
 
-fn main() {
+fn main(rt: HostRuntime) -> io::Result<()> {
+    let mut out = io::writer(&rt);
     let enclaves: [u32; 2] = [7, 3];
     let too_many: [u32; 33] = [9; 33];
     let twice: [u32; 3] = [5, 4095, 5];
     let large: [u32; 3] = [5, 4096, 5];
     let nobody: [u32; 0] = [];
-    queries(open(&enclaves, LifecyclePolicy::CoordinatedTermination, 8));
-    open(&too_many, LifecyclePolicy::KeepAlive, 0);
-    open(&twice, LifecyclePolicy::KeepAlive, 0);
-    open(&large, LifecyclePolicy::KeepAlive, 0);
-    ask(b"blank", open(&nobody, LifecyclePolicy::KeepAlive, 0), 3);
-    alone::delays();
-    alone::verdicts();
-    alone::records();
+    let coordinated = LifecyclePolicy::CoordinatedTermination;
+    let opened = open(&mut out, &enclaves, coordinated, 8)?;
+    queries(&mut out, opened)?;
+    open(&mut out, &too_many, LifecyclePolicy::KeepAlive, 0)?;
+    open(&mut out, &twice, LifecyclePolicy::KeepAlive, 0)?;
+    open(&mut out, &large, LifecyclePolicy::KeepAlive, 0)?;
+    let blank = open(&mut out, &nobody, LifecyclePolicy::KeepAlive, 0)?;
+    ask(&mut out, b"blank", blank, 3)?;
+    alone::delays(&mut out)?;
+    alone::verdicts(&mut out)?;
+    alone::records(&mut out)
 }

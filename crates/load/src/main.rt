@@ -13,9 +13,9 @@ mod totals;
 ghost use Rattle.std.specs.Prelude.{◌≤◌};
 
 use given::Load;
-use libc::{STDIN_FILENO, STDOUT_FILENO};
 use records::LifecyclePolicy;
 use state::FederateCoordinationState;
+use std::io;
 use totals::Totals;
 
 // A federate that is kept alive is parked without a probe.
@@ -47,13 +47,12 @@ fn play(load: Load) -> Totals
     busy::play(opened, load)
 }
 
-fn main() {
+fn main(rt: HostRuntime) -> io::Result<()> {
     let mut bytes: [u8; 64] = [0; 64];
-    let n = io::read_full(STDIN_FILENO, &mut bytes);
+    let n = streams::read_full(&mut rt.reader(), &mut bytes)?;
     let whole: &[u8] = &bytes;
     let totals = play(given::read_load(&whole[..n]));
-    io::print_decimal(STDOUT_FILENO, totals.actions);
-    io::write_all(STDOUT_FILENO, b" ");
-    io::print_decimal(STDOUT_FILENO, totals.refusals);
-    io::write_all(STDOUT_FILENO, b"\n");
+    let actions = totals.actions;
+    let refusals = totals.refusals;
+    println!(rt; "{actions} {refusals}")
 }

@@ -2,20 +2,24 @@
 // output, which the gate compares with the listings that the unchanged Rust gave, byte by byte.
 #![tactic(auto)]
 
+use std::io;
 
 // Room for a script of more bytes than one may have, and for the listing of ten events at a time.
 fn room() -> [u8; 66000] {
     [0; 66000]
 }
 
-fn main() {
+fn main(rt: HostRuntime) -> io::Result<()> {
+    let mut input = rt.reader();
+    let mut out = io::writer(&rt);
     let mut text = room();
     let mut listing = room();
     let mut scripts: u64 = 0;
     while scripts < 100000 {
-        if !output::list_next(&mut text, &mut listing) {
+        if !output::list_next(&mut input, &mut out, &mut text, &mut listing)? {
             break;
         }
         scripts += 1;
     }
+    Ok(())
 }

@@ -8,17 +8,18 @@ mod row;
 
 use calls::{Called, Reply};
 use comparing::{same_answers, same_states};
-use libc::{STDIN_FILENO, STDOUT_FILENO};
 use records::LifecyclePolicy;
 use row::Row;
 use state::FederateCoordinationState;
+use std::io;
+use std::io::Write;
 
-fn say(text: &[u8]) {
-    io::write_all(STDOUT_FILENO, text);
+fn say<W: Write>(out: &mut W, text: &[u8]) -> io::Result<()> {
+    out.write_all(text)
 }
 
-fn say_number(number: u64) {
-    io::print_decimal(STDOUT_FILENO, number);
+fn say_number<W: Write>(out: &mut W, number: u64) -> io::Result<()> {
+    write!(out, "{number}")
 }
 
 // The state, and how many calls there were and agreed.
@@ -52,31 +53,35 @@ fn agree(
         & octets::same_bytes(room, other_room)
 }
 
-fn say_reply(reply: Reply, agreed: bool) {
+fn say_reply<W: Write>(out: &mut W, reply: Reply, agreed: bool) -> io::Result<()> {
     let refusal = reply.refusal;
-    say(b" ");
-    say_number(records::refusal_number(refusal) as u64);
-    say(b"/");
-    say_number(reply.actions as u64);
+    say(out, b" ")?;
+    say_number(out, records::refusal_number(refusal) as u64)?;
+    say(out, b"/")?;
+    say_number(out, reply.actions as u64)?;
     if agreed {
-        say(b"=");
-        return;
+        return say(out, b"=");
     }
-    say(b"!");
+    say(out, b"!")
 }
 
-fn noted(played: Played, called: Called, agreed: bool) -> Played {
+fn noted<W: Write>(
+    out: &mut W,
+    played: Played,
+    called: Called,
+    agreed: bool,
+) -> io::Result<Played> {
     let mut count = played.agreed;
-    say_reply(called.reply, agreed);
+    say_reply(out, called.reply, agreed)?;
     if agreed {
         count = next(count);
     }
     let state = called.state;
-    Played {
+    Ok(Played {
         state,
         calls: next(played.calls),
         agreed: count,
-    }
+    })
 }
 
 // Digits are changes of the gate, capitals the other calls that take room, small letters the scheduler's messages.
@@ -110,70 +115,73 @@ fn valued_call(
     federate::handle_scheduler(state, row::message_of(row), room)
 }
 
-fn play_row(
+fn play_row<W: Write>(
+    out: &mut W,
     played: Played,
     row: Row,
     enclaves: &[u32],
     room: &mut [u8],
     other_room: &mut [u8],
-) -> Played {
+) -> io::Result<Played> {
     let before = played.state;
     let lent = lent_call(before, row, enclaves, room);
     let valued = valued_call(before, row, enclaves, other_room);
     let agreed = agree(before, lent, valued, room, other_room);
-    noted(played, lent, agreed)
+    noted(out, played, lent, agreed)
 }
 
 // The row at a place of the file, if there is one; an input notice names its enclave, or nobody.
-fn play_at(
+fn play_at<W: Write>(
+    out: &mut W,
     played: Played,
     rows: &[u8],
     at: usize,
     room: &mut [u8],
     other_room: &mut [u8],
-) -> Played {
+) -> io::Result<Played> {
     if rows.len() < 4 {
-        return played;
+        return Ok(played);
     }
     if rows.len() - 4 < at {
-        return played;
+        return Ok(played);
     }
     let row = row::row_of(rows[at], rows[at + 1], rows[at + 2], rows[at + 3]);
     let one: [u32; 1] = [row.enclave];
     if row.named {
-        return play_row(played, row, &one[..1], room, other_room);
+        return play_row(out, played, row, &one[..1], room, other_room);
     }
-    play_row(played, row, &one[..0], room, other_room)
+    play_row(out, played, row, &one[..0], room, other_room)
 }
 
-fn say_count(agreed: usize, calls: usize) {
-    say(b"; agreed ");
-    say_number(agreed as u64);
-    say(b" of ");
-    say_number(calls as u64);
-    say(b"\n");
+fn say_count<W: Write>(out: &mut W, agreed: usize, calls: usize) -> io::Result<()> {
+    say(out, b"; agreed ")?;
+    say_number(out, agreed as u64)?;
+    say(out, b" of ")?;
+    say_number(out, calls as u64)?;
+    say(out, b"\n")
 }
 
 // All rows of the file, five bytes each, from this state.
-fn play(
+fn play<W: Write>(
+    out: &mut W,
     name: &[u8],
     rows: &[u8],
     state: FederateCoordinationState,
     room: &mut [u8],
     other_room: &mut [u8],
-) {
+) -> io::Result<()> {
     let mut played = Played {
         state,
         calls: 0,
         agreed: 0,
     };
     let mut i: usize = 0;
-    say(name);
+    say(out, name)?;
     while i < 60 {
-        played = play_at(played, rows, 5 * i, room, other_room);
+        played = play_at(out, played, rows, 5 * i, room, other_room)?;
         i += 1;
     }
-    say_count(played.agreed, played.calls);
+    say_count(out, played.agreed, played.calls)
 }
 
 fn wide_room() -> [u8; 224] {
@@ -185,16 +193,26 @@ fn narrow_room() -> [u8; 223] {
     [170; 223]
 }
 
-fn play_wide(name: &[u8], rows: &[u8], state: FederateCoordinationState) {
+fn play_wide<W: Write>(
+    out: &mut W,
+    name: &[u8],
+    rows: &[u8],
+    state: FederateCoordinationState,
+) -> io::Result<()> {
     let mut room = wide_room();
     let mut other_room = wide_room();
-    play(name, rows, state, &mut room, &mut other_room);
+    play(out, name, rows, state, &mut room, &mut other_room)
 }
 
-fn play_narrow(name: &[u8], rows: &[u8], state: FederateCoordinationState) {
+fn play_narrow<W: Write>(
+    out: &mut W,
+    name: &[u8],
+    rows: &[u8],
+    state: FederateCoordinationState,
+) -> io::Result<()> {
     let mut room = narrow_room();
     let mut other_room = narrow_room();
-    play(name, rows, state, &mut room, &mut other_room);
+    play(out, name, rows, state, &mut room, &mut other_room)
 }
 
 fn open(policy: LifecyclePolicy, generation: u64) -> FederateCoordinationState {
@@ -210,42 +228,50 @@ fn spoilt(state: FederateCoordinationState) -> FederateCoordinationState {
     other
 }
 
-fn say_told_apart(state: FederateCoordinationState, other: FederateCoordinationState) {
+fn say_told_apart<W: Write>(
+    out: &mut W,
+    state: FederateCoordinationState,
+    other: FederateCoordinationState,
+) -> io::Result<()> {
     if same_states(state, other) {
-        say(b" 0");
-        return;
+        return say(out, b" 0");
     }
-    say(b" 1");
+    say(out, b" 1")
 }
 
 // One cell is changed, the last of its column where it stands in one.
-fn show_told_apart(state: FederateCoordinationState) {
+fn show_told_apart<W: Write>(out: &mut W, state: FederateCoordinationState) -> io::Result<()> {
     let mut tag = state;
     let mut enclave = state;
     tag.microsteps[95] = 1;
     enclave.enclaves[31] = 1;
-    say(b"told apart");
-    say_told_apart(state, tag);
-    say_told_apart(state, enclave);
-    say_told_apart(state, spoilt(state));
-    say_told_apart(state, state);
-    say(b"\n");
+    say(out, b"told apart")?;
+    say_told_apart(out, state, tag)?;
+    say_told_apart(out, state, enclave)?;
+    say_told_apart(out, state, spoilt(state))?;
+    say_told_apart(out, state, state)?;
+    say(out, b"\n")
 }
 
-fn play_all(rows: &[u8]) {
+fn play_all<W: Write>(out: &mut W, rows: &[u8]) -> io::Result<()> {
     let opened = open(LifecyclePolicy::TerminateWhenIdle, 0);
     let coordinated = open(LifecyclePolicy::CoordinatedTermination, 0);
     let last = open(LifecyclePolicy::TerminateWhenIdle, 18446744073709551615);
-    play_wide(b"terminate", rows, opened);
-    play_wide(b"coordinated", rows, coordinated);
-    play_wide(b"last generation", rows, last);
-    play_narrow(b"narrow", rows, opened);
-    play_wide(b"spoilt", rows, spoilt(opened));
-    show_told_apart(opened);
+    play_wide(out, b"terminate", rows, opened)?;
+    play_wide(out, b"coordinated", rows, coordinated)?;
+    play_wide(out, b"last generation", rows, last)?;
+    play_narrow(out, b"narrow", rows, opened)?;
+    play_wide(out, b"spoilt", rows, spoilt(opened))?;
+    show_told_apart(out, opened)
 }
 
-fn main() {
-    let mut rows = io::buffer();
-    let length = io::read_full(STDIN_FILENO, &mut rows);
-    play_all(&rows[..length]);
+// Room for the rows of a file.
+fn rows_room() -> [u8; 4096] {
+    [0; 4096]
+}
+
+fn main(rt: HostRuntime) -> io::Result<()> {
+    let mut rows = rows_room();
+    let length = streams::read_full(&mut rt.reader(), &mut rows)?;
+    play_all(&mut io::writer(&rt), &rows[..length])
 }

@@ -1,7 +1,7 @@
 // rigscript (document 01, "Script and its listing"): a script on standard input, at most 4,096 of its events run, the listing on standard output.
 #![tactic(auto)]
 
-use libc::STDIN_FILENO;
+use std::io;
 
 // One byte more than a script may have, so that a longer one shows.
 fn script_room() -> [u8; 65537] {
@@ -13,10 +13,10 @@ fn listing_room() -> [u8; 56000] {
     [0; 56000]
 }
 
-fn main() {
+fn main(rt: HostRuntime) -> io::Result<()> {
     let mut bytes = script_room();
-    let n = io::read_full(STDIN_FILENO, &mut bytes);
+    let n = streams::read_full(&mut rt.reader(), &mut bytes)?;
     let whole: &[u8] = &bytes;
     let mut room = listing_room();
-    output::list_script(&whole[..n], &mut room);
+    output::list_script(&mut io::writer(&rt), &whole[..n], &mut room)
 }

@@ -1,0 +1,22 @@
+// Standard streams for the programs: a buffer filled from a reader as far as the input goes. No contract can say which bytes reach or leave the system.
+#![tactic(auto)]
+
+ghost use Rattle.std.specs.Prelude.{◌≤◌, length, IfOk};
+
+use std::io;
+use std::io::Read;
+
+// Reads until the buffer is full or the input ends: how many bytes came, from the front on.
+pub fn read_full<R: Read>(input: &mut R, buf: &mut [u8]) -> io::Result<usize>
+    ensures { IfOk result (λ n. n ≤ length buf.new) }
+{
+    let mut filled: usize = 0;
+    while filled < buf.len() {
+        let came = input.read(&mut buf[filled..])?;
+        if came == 0 {
+            break;
+        }
+        filled += came;
+    }
+    Ok(filled)
+}
