@@ -28,9 +28,9 @@ pub fn put_byte(out: &mut [u8], at: usize, byte: u8) -> usize
 }
 
 fn put_digits(out: &mut [u8], at: usize, n: u64, most: usize) -> usize
-    requires n_bound { n < 10 ^ most }
-    requires most_nonzero { 0 < most }
-    requires most_in_bounds { at + most ≤ length out.old }
+    requires digits_enough { n < 10 ^ most }
+    requires a_digit { 0 < most }
+    requires in_room { at + most ≤ length out.old }
     ensures { Puts out.old at (digits_of most n) most result out.new }
 {
     if n < 10 {
