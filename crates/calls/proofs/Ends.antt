@@ -1,7 +1,7 @@
 -- How a call ends that lends a room: refused, with the state and the room as they were; or taken, with a state that shows the rule's and the records of
 -- its actions at the front of the room. Assumes nothing.
 use mathlib.Core.Path.{◌≡◌, refl, sym, ap, ◌∙◌, subst}
-use mathlib.Core.Bool.{Bool, true, false, not, cond, ◌&&◌}
+use mathlib.Core.Bool.{Bool, true, false, cond, ◌&&◌}
 use mathlib.Core.List.{List, [], ◌∷◌}
 use Prim.Native.Nat.{ℕ, zero, suc, ◌+◌, ◌*◌, ◌≤◌, ◌<◌}
 use native.Mathlib.Omega.{arith}
@@ -61,7 +61,7 @@ module _ (g : Given) (s : Held) (room : List ℕ) {r : Called} (silent : (facts 
   pub ends-refused : (n : Refusal) → refusal_number n ≡ refusal_of g s → 0 < refusal_number n → r ≡ replied s n Silent 0 → Ends g s r room room
   ends-refused n h l e = unwritten g s room (ap (λ (x : Called). x.reply.actions) (sym e)) (promised-refused g s n Silent h l (ap refused_answer (sym silent)) e)
 
-  pub ends-27 : {b : Bool} → b ≡ (represents s && is_sound (view s)) → not b ≡ true → r ≡ replied s UnsoundState Silent 0 → Ends g s r room room
+  pub ends-27 : {b : Bool} → b ≡ (represents s && is_sound (view s)) → b ≡ false → r ≡ replied s UnsoundState Silent 0 → Ends g s r room room
   ends-27 q h e = unwritten g s room (ap (λ (x : Called). x.reply.actions) (sym e)) (promised-27 g s Silent q h (ap refused_answer (sym silent)) e)
 
   module _ (p : Passes s) where

@@ -1,11 +1,10 @@
 -- A state that passes 27, with what every later test of a call rests on: its columns are of their lengths, and it has 1 to 32 participants, who ascend.
 -- And what a call promises that lends no room: refused, the state as it came; taken, a state that shows the rule's. Assumes nothing.
 use mathlib.Core.Path.{◌≡◌, refl, sym, ap, ◌∙◌, subst}
-use mathlib.Core.Bool.{Bool, true, false, not, ◌&&◌}
+use mathlib.Core.Bool.{Bool, true, false, ◌&&◌}
 use mathlib.Core.List.{List, map}
 use Prim.Native.Nat.{ℕ, ◌≤◌, ◌<◌}
 use native.Mathlib.Omega.{arith}
-use borrow.Author.Tests.{not-true, not-false}
 use lib.Dec.{T}
 use lib.ListN.{length, length-map}
 use Rattle.records.specs.Numbers.{refusal_number}
@@ -91,8 +90,8 @@ standing_by s z p =
     record { passing = p; good = record { sized = z; neat = is-so p.neat; sound = sound }; one = n.0; few = n.1; ascends = sound-ascending (view s) sound }
 
 -- by the test of 27 that the code makes
-pub standing : (s : Held) → Sized s → {b : Bool} → b ≡ (represents s && is_sound (view s)) → not b ≡ false → Standing s
-standing s z {b} e h = standing_by s z (passes s (sym e ∙ not-false b h))
+pub standing : (s : Held) → Sized s → {b : Bool} → b ≡ (represents s && is_sound (view s)) → b ≡ true → Standing s
+standing s z {b} e h = standing_by s z (passes s (sym e ∙ h))
 
 -- ---- what is promised where no room is lent
 
@@ -101,9 +100,9 @@ module _ (g : Given) (s : Held) {r : Called} where
       → r ≡ replied s n a 0 → Promised g s r
   promised-refused n a h l x e = subst (Promised g s) (sym e) (refused g s n a h l x)
 
-  pub promised-27 : (a : Answer) {b : Bool} → b ≡ (represents s && is_sound (view s)) → not b ≡ true → a ≡ refused_answer ((facts g.what).answer (view s))
+  pub promised-27 : (a : Answer) {b : Bool} → b ≡ (represents s && is_sound (view s)) → b ≡ false → a ≡ refused_answer ((facts g.what).answer (view s))
       → r ≡ replied s UnsoundState a 0 → Promised g s r
-  promised-27 a {b} q h x e = promised-refused UnsoundState a (refusal-27 g s (sym q ∙ not-true b h)) (omega arith) x e
+  promised-27 a {b} q h x e = promised-refused UnsoundState a (refusal-27 g s (sym q ∙ h)) (omega arith) x e
 
   module _ (st : Standing s) (free : 0 ≡ refusal_of g s) (a : Answer) (says : a ≡ (facts g.what).answer (view s)) where
     pub promised-taken : (t : Held) (l : List CoordinationAction) → Beyond s t → T (represents t) → take_step g.what (view s) ≡ record { state = view t; actions = l }
