@@ -77,6 +77,7 @@ fn observation(t: &[u8]) -> ReadObservation
 }
 
 // `active E`, `stopped E`, `failed E|-`, `idle R`, `horizon T|-`.
+#[tactic(auto, unfolding(crate::specs::Events::with_one_field))]
 pub fn with_one_field(kind: u8, a: &[u8]) -> Event
     ensures { result ≡ event_for (with_one_field kind a.now) }
 {
@@ -104,6 +105,7 @@ pub fn with_one_field(kind: u8, a: &[u8]) -> Event
 }
 
 // `publish E T|-`, `observed E G`, `acquire R T`, `begin E T`, `late E T`, `done E T`.
+#[tactic(auto, unfolding(crate::specs::Events::with_two_fields))]
 pub fn with_two_fields(kind: u8, a: &[u8], b: &[u8]) -> Event
     ensures { result ≡ event_for (with_two_fields kind a.now b.now) }
 {
@@ -136,6 +138,7 @@ pub fn with_two_fields(kind: u8, a: &[u8], b: &[u8]) -> Event
 }
 
 // `complete E T 0|1`, `sent R T|- T|-`, `observe E R probed|parked|rechecked`.
+#[tactic(auto, unfolding(crate::specs::Events::with_three_fields))]
 pub fn with_three_fields(kind: u8, a: &[u8], b: &[u8], c: &[u8]) -> Event
     ensures { result ≡ event_for (with_three_fields kind a.now b.now c.now) }
 {

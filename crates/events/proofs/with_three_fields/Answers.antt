@@ -1,0 +1,10 @@
+-- `events::with_three_fields`: the first field's number fits 32 bits where its event asks so, since `numerals::number` was given the most that it may be. Assumes nothing.
+use Rattle.std.proofs.Common.{arith, sym}
+use Rattle.numerals.proofs.Numbers.{number-le}
+use Rattle.events.proofs.with_three_fields.Goals as goal
+
+pub overflow_cast-result : goal.overflow_cast-result
+overflow_cast-result c = grind (arith, number-le c.if-kind-eq8.most c.args.a.now c.in-Number.n (sym c.in-Number.ensures))
+
+pub overflow_cast-result-in-9 : goal.overflow_cast-result-in-9
+overflow_cast-result-in-9 c = grind (arith, number-le c.if-kind-eq8.most c.args.a.now c.in-Number.n (sym c.in-Number.ensures))
