@@ -89,8 +89,8 @@ pub fn put_line(
     two: Field,
     three: Field,
 ) -> usize
-    requires three_in_bounds { at + length word.now + (4 + room_of one + room_of two + room_of three) ≤ length out.old }
-    requires three_len_bound { length word.now + (4 + room_of one + room_of two + room_of three) ≤ 160 }
+    requires in_room { at + length word.now + (4 + room_of one + room_of two + room_of three) ≤ length out.old }
+    requires within_line { length word.now + (4 + room_of one + room_of two + room_of three) ≤ 160 }
     ensures { Puts out.old at (line (word.now ∷ words (one ∷ two ∷ three ∷ []))) 160 result out.new }
 {
     let after = printing::put_text(out, at, word);
