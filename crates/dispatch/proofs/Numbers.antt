@@ -1,13 +1,10 @@
 -- The message of a flat form is told by its kind number: so what is shown of that message under the number is shown of every message with the form.
 -- Assumes nothing.
 use mathlib.Core.Path.{◌≡◌, refl, sym, ap, ◌∙◌, subst}
-use mathlib.Core.Bool.{true, false, cond}
+use mathlib.Core.Bool.{true, cond}
 use Prim.Native.Nat.{ℕ}
-use native.Mathlib.Omega.{arith}
-use borrow.Author.Tests.{ne_eqb}
 use lib.Dec.{T, eqb}
 use Rattle.tags.specs.Tags.{is_proper, proper_if_present}
-use Rattle.records.specs.Numbers.{message_number}
 use Rattle.records.specs.declared.SchedulerMessage.{SchedulerMessage}
 use Rattle.records.specs.declared.SchedulerMessage.TheVariants as message
 use Rattle.rules.specs.Model.{Tag}
@@ -22,7 +19,7 @@ use Rattle.state.specs.Cells.{cell_of}
 use Rattle.state.specs.View.{enclave_in}
 use Rattle.state.specs.Decides.{Decides, neat_parts}
 use Rattle.dispatch.specs.declared.Flat.{Flat}
-use Rattle.dispatch.specs.Messages.{Names, about_completion, call_of, enclave_of, flat_of}
+use Rattle.dispatch.specs.Messages.{Names, call_of, enclave_of, flat_of}
 
 abbrev message_from : Flat → SchedulerMessage
 message_from f =
@@ -39,28 +36,6 @@ message-back (message.CompleteTag e t n) = refl
 message-back (message.CompletionObserved e g) = refl
 message-back (message.ParticipantStopped e) = refl
 message-back (message.Failed e) = refl
-
--- no message has this number
-abbrev Unknown : ℕ → Type 0
-Unknown k = (m : SchedulerMessage) → k ≡ message_number m → ⊥
-
-pub unknown-but : (k : ℕ) → (k ≡ 1 → ⊥) → (k ≡ 2 → ⊥) → (k ≡ 3 → ⊥) → (k ≡ 4 → ⊥) → (k ≡ 5 → ⊥) → (k ≡ 6 → ⊥) → Unknown k
-unknown-but k a b c d f g (message.Active e) q = a q
-unknown-but k a b c d f g (message.Publish e t) q = b q
-unknown-but k a b c d f g (message.CompleteTag e t n) q = c q
-unknown-but k a b c d f g (message.CompletionObserved e n) q = d q
-unknown-but k a b c d f g (message.ParticipantStopped e) q = f q
-unknown-but k a b c d f g (message.Failed e) q = g q
-
-pub unknown-zero : (k : ℕ) → k ≡ 0 → Unknown k
-unknown-zero k z = unknown-but k (λ q. omega arith) (λ q. omega arith) (λ q. omega arith) (λ q. omega arith) (λ q. omega arith) (λ q. omega arith)
-
--- what holds of the kinds about completion need not be shown of another
-pub another-but : {A : Type 0} (k : ℕ) → (k ≡ 3 → ⊥) → (k ≡ 4 → ⊥) → T (about_completion k) → A
-another-but k a b h = absurd (rw (ne_eqb k 3 a, ne_eqb k 4 b) at h)
-
-pub another : {A : Type 0} (k n : ℕ) → k ≡ n → about_completion n ≡ false → T (about_completion k) → A
-another k n q f h = absurd (subst T (ap about_completion q ∙ f) h)
 
 -- r is the first half of m's own rule
 record Own (p : Parts) (r : Decided) (m : SchedulerMessage) : Type 0 where
@@ -122,6 +97,3 @@ module _ (f : Flat) (p : Parts) (r : Decided) where
   pub owns-failed : f.kind ≡ 6 → ((e : ℕ) → Decides (fail_of f.enclave) e p r) → Keeps → Owns f p r
   unfolding own_step
   owns-failed k h w = owns (message.Failed f.enclave) (rw k refl) (record { step = λ e n q. h e; neat = λ q. w })
-
-  pub owns_none : Unknown f.kind → Owns f p r
-  owns_none u = record { step = λ m e q. absurd (u m (ap (λ z. z.kind) q)); neat = λ m q. absurd (u m (ap (λ z. z.kind) q)) }
