@@ -122,6 +122,7 @@ fn observe_event(enclave: u32, revision: u64, observation: u8, listed: &[u32]) -
 }
 
 // The event that tells the call, beside the enclaves that an `input` names.
+#[tactic(auto, unfolding(crate::specs::Given::call_of))]
 pub fn event_of(call: CallNumbers, listed: &[u32]) -> Event
     ensures { told_event result listed.now ≡ call_of call listed.now }
 {
