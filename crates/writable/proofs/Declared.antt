@@ -1,6 +1,6 @@
 -- Every declared state is of its widths: `StateFits`, from what it is to be a value of the declared type, and so is every declared tag. Assumes nothing.
 use Prim.Native.Nat.{ℕ, zero, suc}
-use mathlib.Core.List.{List, [], ◌∷◌, map}
+use mathlib.Core.List.{List, [], ◌∷◌}
 use lib.ListN.{get_or}
 use mir.Syntax.{w32, w64}
 use mir.Val.{Val, Fits, SFits}
@@ -9,8 +9,7 @@ use base.Fml.{Fml}
 use denote.Shadow.{shadow}
 use denote.Laws.{Is}
 use denote.Array.{each}
-use denote.Plain.{UInt}
-use denote.Signed.{SInt}
+use denote.Builtin.{i32, i64, u64}
 use denote.Struct.Declared.{row}
 use denote.Enum.Declared as enum
 use Rattle.tags.specs.declared.Tag.{Tag}
@@ -32,7 +31,7 @@ use Rattle.writable.specs.Demands.{MessageFits, StateFits}
 
 -- what holds of every value of an element's type holds at every place of an array
 entries : {X : Type 0} (own : X → List Val → Fml) (Q : X → Type 0) → ((x : X) (vs : List Val) → shadow (own x vs) → Q x) → (other : X) → Q other
-    → (xs : List X) (us : List Val) → shadow (each X own (map (λ v. v) xs) us) → (i : ℕ) → Q (get_or xs i other)
+    → (xs : List X) (us : List Val) → shadow (each X own xs us) → (i : ℕ) → Q (get_or xs i other)
 entries own Q f other d [] us h i = d
 entries own Q f other d (x ∷ xs) [] h i = absurd h
 entries own Q f other d (x ∷ xs) (u ∷ us) h zero = f x (u ∷ []) h.0
@@ -69,9 +68,9 @@ state-fits s vs h =
     let columns = h.1.1.1.1.1.1.1.1 in
     let parts = columns.1.1.1 in
     let gate = parts.1.1.0.1.1 in
-    let seconds = entries (SInt w64).own_val (SFits w64) (λ z us k. record { sfits = k.1 }) _ (sfits_lit tt) s.seconds _ columns.0.1.1 in
-    let nanoseconds = entries (SInt w32).own_val (SFits w32) (λ z us k. record { sfits = k.1 }) _ (sfits_lit tt) s.nanoseconds _ columns.1.0.1.1 in
-    let microsteps = entries (UInt w64).own_val (Fits w64) (λ n us k. record { fits = k.1 }) _ (Fits-lit tt) s.microsteps _ columns.1.1.0.1.1 in
+    let seconds = entries i64.own_val (SFits w64) (λ z us k. record { sfits = k.1 }) _ (sfits_lit tt) s.seconds _ columns.0.1.1 in
+    let nanoseconds = entries i32.own_val (SFits w32) (λ z us k. record { sfits = k.1 }) _ (sfits_lit tt) s.nanoseconds _ columns.1.0.1.1 in
+    let microsteps = entries u64.own_val (Fits w64) (λ n us k. record { fits = k.1 }) _ (Fits-lit tt) s.microsteps _ columns.1.1.0.1.1 in
     record {
       revision = record { fits = parts.0.1.1.1.1.1.0.1 };
       tags = λ k. record { seconds = seconds k; nanoseconds = nanoseconds k; microstep = microsteps k };
