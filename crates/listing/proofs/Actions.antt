@@ -106,14 +106,7 @@ start_of k = get_or starts (k - 1) 0
 abbrev pub end_of : ℕ → ℕ
 end_of k = get_or starts k 0 - 1
 
--- a kind's number, and its word among the names
-pub record Named (k : ℕ) : Type 0 where
-  pub least : 1 ≤ k
-  pub most : k < 12
-  pub next : 1 ≤ get_or starts k 0
-  pub order : start_of k ≤ end_of k
-  pub within : end_of k ≤ 85
-
+-- the word at a kind's number
 abbrev pub name_of : ℕ → List ℕ
 name_of k = take (end_of k - start_of k) (drop (start_of k) names)
 
@@ -121,19 +114,6 @@ name_of k = take (end_of k - start_of k) (drop (start_of k) names)
 pub record Makes (a : CoordinationAction) (name : List ℕ) (one two three : Field) : Type 0 where
   pub same : line (name ∷ words (one ∷ two ∷ three ∷ [])) ≡ action_line a
   pub fits : length name + (4 + room_of one + room_of two + room_of three) ≤ 160
-
-pub kind-named : (a : CoordinationAction) → Named (fields_of a).kind
-kind-named (Publish p) = record { least = omega arith; most = omega arith; next = omega arith; order = omega arith; within = omega arith }
-kind-named (AdvanceHorizon t) = record { least = omega arith; most = omega arith; next = omega arith; order = omega arith; within = omega arith }
-kind-named (Grant e t) = record { least = omega arith; most = omega arith; next = omega arith; order = omega arith; within = omega arith }
-kind-named (Complete c) = record { least = omega arith; most = omega arith; next = omega arith; order = omega arith; within = omega arith }
-kind-named (CompletionProbe e g) = record { least = omega arith; most = omega arith; next = omega arith; order = omega arith; within = omega arith }
-kind-named (Probe r) = record { least = omega arith; most = omega arith; next = omega arith; order = omega arith; within = omega arith }
-kind-named (Park r) = record { least = omega arith; most = omega arith; next = omega arith; order = omega arith; within = omega arith }
-kind-named (Recheck r) = record { least = omega arith; most = omega arith; next = omega arith; order = omega arith; within = omega arith }
-kind-named (Resume e r) = record { least = omega arith; most = omega arith; next = omega arith; order = omega arith; within = omega arith }
-kind-named Stop = record { least = omega arith; most = omega arith; next = omega arith; order = omega arith; within = omega arith }
-kind-named Abort = record { least = omega arith; most = omega arith; next = omega arith; order = omega arith; within = omega arith }
 
 pub marked : (b : Bool) → decimal (bool_byte b) ≡ mark_text b
 unfolding decimal
@@ -155,9 +135,6 @@ fields-make Stop = record { same = refl; fits = omega arith }
 fields-make Abort = record { same = refl; fits = omega arith }
 
 module _ (a : CoordinationAction) (f : Fields) (is : f ≡ fields_of a) where
-  pub fields-named : Named f.kind
-  fields-named = rw is (kind-named a)
-
   pub line_made : {n : ℕ} {one two three : Field} → n ≡ number_of f → one ≡ first_of f n → two ≡ second_of f → three ≡ third_of f
       → Makes a (name_of f.kind) one two three
   line_made h i j k = rw (i, j, k, h, is) (fields-make a)

@@ -1,0 +1,51 @@
+-- `listing::put_event` meets its contract: the number, and three fields right after it. Assumes nothing.
+use mathlib.Core.Path.{◌≡◌, sym, ap, ◌∙◌}
+use mathlib.Core.List.{List, [], ◌∷◌}
+use Prim.Native.Nat.{ℕ, ◌≤◌}
+use native.Mathlib.Omega.{arith}
+use Rattle.tags.specs.declared.OptionalTag.TheVariants.{NoTag}
+use Rattle.records.specs.Numbers.{refusal_number}
+use Rattle.rules.specs.Model.{Answer, Silent, No, Yes}
+use Rattle.printing.specs.Printing.{decimal}
+use Rattle.printing.specs.Runs.{Puts}
+use Rattle.printing.proofs.Runs.{at_most}
+use Rattle.fields.specs.Words.{line}
+use Rattle.fields.specs.Fields.{room_of, words}
+use Rattle.fields.specs.declared.Field.{Field}
+use Rattle.fields.specs.declared.Field.TheVariants.{Number, Time}
+use Rattle.listing.specs.Listing.{event_line}
+use Rattle.fields.proofs.Lines.{then-line}
+use Rattle.listing.proofs.put_event.Goals as goal
+use Rattle.listing.proofs.put_event.Goals.{in-Silent, in-No, in-Yes}
+
+abbrev said_of : Answer → Field
+said_of Silent = Time NoTag
+said_of No = Number 0
+said_of Yes = Number 1
+
+said-line : {l m : List ℕ} {at j : ℕ} (a : Answer) (n r k : ℕ)
+    → Puts l at (line (decimal n ∷ words (Number r ∷ said_of a ∷ Number k ∷ []))) 160 j m → Puts l at (event_line n r a k) 160 j m
+unfolding event_line decimal
+said-line Silent n r k p = p
+said-line No n r k p = p
+said-line Yes n r k p = p
+
+said-room : (a : Answer) → room_of (said_of a) ≤ 64
+said-room Silent = omega arith
+said-room No = omega arith
+said-room Yes = omega arith
+
+pub returns : goal.returns
+returns c =
+    let s = c.args in
+    let said-is : c.match-answer.said ≡ said_of s.answer =
+    elim c.match-answer.branch [
+      | in-Silent w ↦ w.said-is ∙ ap said_of (sym w.in-Silent.is)
+      | in-No w ↦ w.said-is ∙ ap said_of (sym w.in-No.is)
+      | in-Yes w ↦ w.said-is ∙ ap said_of (sym w.in-Yes.is)
+    ] in
+    let room : room_of c.match-answer.said ≤ 64 = rw said-is (said-room s.answer) in
+    let three = words (Number (refusal_number s.refusal) ∷ c.match-answer.said ∷ Number s.actions ∷ []) in
+    let fields = rw c.refusal_number-refused.ensures at c.put_rest.ensures in
+    let put = at_most {b = 160} (then-line three c.put_decimal-after.ensures fields (omega arith)) (omega arith) in
+    said-line s.answer s.number (refusal_number s.refusal) s.actions (rw said-is at put)
