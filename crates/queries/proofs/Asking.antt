@@ -4,7 +4,7 @@ use mathlib.Core.Path.{◌≡◌, refl, sym, ap, ◌∙◌, subst, subst₂}
 use mathlib.Core.Bool.{Bool, true, false, not, cond, ◌&&◌}
 use Prim.Native.Nat.{ℕ, ◌≤◌, ◌<◌}
 use native.Mathlib.Omega.{arith}
-use borrow.Author.Tests.{not-true, not-false, ne_eqb}
+use borrow.Author.Tests.{ne_eqb}
 use lib.Dec.{T, eqb}
 use lib.ListN.{get_or}
 use Rattle.tags.specs.Tags.{is_present}
@@ -28,11 +28,11 @@ module _ {A : Type 0} (refused : A) {p b : Bool} (e : b ≡ p) where
   pub asked : {x y : A} (n : Refusal) (a : A) → x ≡ y → Answers (answer_if b refused x) n a → Answers (answer_if p refused y) n a
   asked n a f h = subst₂ (λ b x. Answers (answer_if b refused x) n a) e f h
 
-  pub asked-refused : (y : A) → not b ≡ true → Answers (answer_if p refused y) UnsoundState refused
-  asked-refused y t = subst (λ b. Answers (answer_if b refused y) UnsoundState refused) (sym (not-true b t) ∙ e) (record { refused = refl; answered = refl })
+  pub asked-refused : (y : A) → b ≡ false → Answers (answer_if p refused y) UnsoundState refused
+  asked-refused y t = subst (λ b. Answers (answer_if b refused y) UnsoundState refused) (sym t ∙ e) (record { refused = refl; answered = refl })
 
-  pub asked-taken : {a y : A} → not b ≡ false → a ≡ y → Answers (answer_if p refused y) Taken a
-  asked-taken {a = a} {y = y} t q = subst (λ b. Answers (answer_if b refused y) Taken a) (sym (not-false b t) ∙ e) (record { refused = refl; answered = q })
+  pub asked-taken : {a y : A} → b ≡ true → a ≡ y → Answers (answer_if p refused y) Taken a
+  asked-taken {a = a} {y = y} t q = subst (λ b. Answers (answer_if b refused y) Taken a) (sym t ∙ e) (record { refused = refl; answered = q })
 
 -- ---- the cells
 
@@ -49,9 +49,9 @@ stopped-above n a b c d e f = rw (ne_eqb n 0 a, ne_eqb n 1 b, ne_eqb n 2 c, ne_e
 
 -- ---- the candidate
 
-module _ (s : Held) {b : Bool} (p : b ≡ passes s) (t : not b ≡ false) where
+module _ (s : Held) {b : Bool} (p : b ≡ passes s) (t : b ≡ true) where
   sound : T (is_sound (view s))
-  sound = and_right (represents s) (is_sound (view s)) (subst T (sym (not-false b t) ∙ p) tt)
+  sound = and_right (represents s) (is_sound (view s)) (subst T (sym t ∙ p) tt)
 
   pub few : s.count ≤ 32
   few = let z = (sound-number (view s) sound).1 in let n = length-rows s in omega arith
