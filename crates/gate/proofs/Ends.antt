@@ -3,7 +3,7 @@
 use mathlib.Core.Path.{◌≡◌, refl, sym, ap, ap₂, ◌∙◌, subst}
 use mathlib.Core.Bool.{Bool, true, false, not, cond, ◌&&◌, ◌||◌}
 use mathlib.Core.List.{List, [], ◌∷◌}
-use Prim.Native.Nat.{ℕ, ◌<◌}
+use Prim.Native.Nat.{ℕ, ◌<◌, ◌≤◌}
 use native.Mathlib.Omega.{arith}
 use lib.Dec.{T, ltb}
 use lib.ListN.{length}
@@ -21,13 +21,13 @@ use Rattle.state.specs.Cells.{optional_of, cell_of}
 use Rattle.state.specs.View.{rows_of, view, put, represents}
 use Rattle.state.specs.Parts.{with_gate}
 use Rattle.state.proofs.Rows.{known, neat-cell, optional-cell, rows-gate}
-use Rattle.state.proofs.Neat.{gate-parts, gate-whole, neat-gate, neat-with-gate}
+use Rattle.state.proofs.Neat.{count-bounds, gate-parts, gate-whole, neat-gate, neat-with-gate}
 use Rattle.state.proofs.Put.{beyond-columns}
 use Rattle.calls.specs.declared.Called.{Called}
 use Rattle.calls.specs.declared.Reply.{Reply}
 use Rattle.calls.specs.Called.{refusal_of, Promised, lent, replied}
 use Rattle.calls.proofs.Refusals.{Passes, passes, refusal-27, refusal-7, refusal-3, refusal-0, refused, taken}
-use Rattle.calls.proofs.Standing.{Standing, promised-taken}
+use Rattle.calls.proofs.Standing.{Standing, is-so, promised-taken}
 use Rattle.gate.specs.Replies.{Replies, Admits, Finds}
 use Rattle.state.proofs.Seats.{any-seated, any-unknown}
 
@@ -196,3 +196,9 @@ asked-unknown false = done-unknown
 pub asked-found : (b : Bool) (s : Held) (e : ℕ) (t x y : Tag) → Finds s e x y → ((b && within t (optional_of x)) || within t (optional_of y)) ≡ yes_to b e t (view s)
 asked-found true = late-found
 asked-found false = done-found
+
+-- ---- the number of participants
+
+-- of a state that passes 27
+pub few-of : (s : Held) {b : Bool} → b ≡ (represents s && is_sound (view s)) → b ≡ true → s.count ≤ 32
+few-of s e h = (count-bounds s (is-so (passes s (sym e ∙ h)).sound)).1

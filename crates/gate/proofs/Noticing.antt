@@ -1,11 +1,10 @@
 -- `input_publishing` on plain values: the state with the observations cleared, the named unpublished and the small parts revised and dropped is the
 -- rule's. By the participants place by place. Assumes nothing.
 use mathlib.Core.Path.{◌≡◌, refl, sym, ◌∙◌, subst}
-use mathlib.Core.Bool.{Bool, true, false, not}
+use mathlib.Core.Bool.{Bool, true, false}
 use mathlib.Core.List.{List, map, map-map, []}
 use Prim.Native.Nat.{ℕ, ◌+◌, ◌-◌, ◌≤◌, ◌<◌}
 use native.Mathlib.Omega.{arith}
-use borrow.Author.Tests.{not-true, not-false}
 use lib.Dec.{T}
 use lib.IntN.{pos}
 use lib.ListN.{length, get_or, drop, length-append, length-drop, get_or-append}
@@ -167,14 +166,14 @@ module _ (s : Held) (es : List ℕ) (st : Standing s) {known : Bool} (q : known 
   knowing : knows_all es (rows_of s) ≡ known
   knowing = knows-found s st.ascends es ∙ sym q
 
-  pub ends-unknown : (r : Called) → not known ≡ true → r ≡ replied s UnknownEnclave Silent 0 → Promised (lent 0 (input es)) s r
-  ends-unknown r h e = promised-refused (lent 0 (input es)) s UnknownEnclave Silent (input-3 es s st.passing (knowing ∙ not-true known h)) (omega arith) refl e
+  pub ends-unknown : (r : Called) → known ≡ false → r ≡ replied s UnknownEnclave Silent 0 → Promised (lent 0 (input es)) s r
+  ends-unknown r h e = promised-refused (lent 0 (input es)) s UnknownEnclave Silent (input-3 es s st.passing (knowing ∙ h)) (omega arith) refl e
 
-  pub ends-noticed : (published : List Bool) (observation : List ℕ) (c : Coordination) (k : Completion) (g : Gate) (r : Called) → not known ≡ false
+  pub ends-noticed : (published : List Bool) (observation : List ℕ) (c : Coordination) (k : Completion) (g : Gate) (r : Called) → known ≡ true
       → published ≡ unlisted s.enclaves es s.published s.count → observation ≡ cleared s.count s.observation → c ≡ revised_of s.coordination
       → k ≡ unprobed_of s.completion → g ≡ dropped s.gate → r ≡ replied (storing s published observation c k g) Taken Silent 0 → Promised (lent 0 (input es)) s r
   ends-noticed published observation c k g r h p o x y z e =
       let few = st.few in
-      promised-taken (lent 0 (input es)) s st (input-0 es s st.passing (knowing ∙ not-false known h)) Silent refl (noticed_state s es) []
+      promised-taken (lent 0 (input es)) s st (input-0 es s st.passing (knowing ∙ h)) Silent refl (noticed_state s es) []
       (noticed-beyond s es st.good few) (noticed-neat s es st.good few) (step-noticed s es st.good few) refl
       (e ∙ (λ i. replied (storing s (p i) (o i) (x i) (y i) (z i)) Taken Silent 0))
