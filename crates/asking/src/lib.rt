@@ -144,6 +144,7 @@ fn candidate_asked(a: CandidateAnswer) -> AskedNumbers
 }
 
 // The query of this number; the enclave is that of query 11.
+#[tactic(auto, unfolding(crate::specs::Asked::asked_of))]
 pub fn ask(state: FederateCoordinationState, question: u8, enclave: u32) -> AskedNumbers
     ensures { result ≡ asked_of question enclave state }
 {
