@@ -15,6 +15,7 @@ fn lesser(a: usize, b: usize) -> usize
 }
 
 // How many events a run may take: the lesser of its budget and of those left, and no more than the room surely holds.
+#[tactic(auto, unfolding(crate::specs::Run::allowance))]
 pub fn allowance(budget: usize, left: usize, room: usize) -> usize
     ensures { result ≡ allowance budget left room }
 {
