@@ -25,12 +25,12 @@ use Rattle.state.specs.View.{view, represents}
 use Rattle.state.specs.Parts.{Seated, cleared, with_coordination}
 use Rattle.state.specs.Decides.{said_of}
 use Rattle.state.proofs.Rows.{seated, known, unknown-knows}
-use Rattle.state.proofs.Neat.{neat-with-coordination}
+use Rattle.state.proofs.Neat.{count-bounds, neat-with-coordination}
 use Rattle.state.proofs.Put.{Beyond, Past, plain, past-trans, past-set, past-cleared, beyond-refl}
 use Rattle.calls.specs.Called.{lent, refusal_of, replied}
 use Rattle.calls.specs.declared.Called.{Called}
-use Rattle.calls.proofs.Refusals.{refusal-27, refusal-4, refusal-0}
-use Rattle.calls.proofs.Standing.{Standing}
+use Rattle.calls.proofs.Refusals.{passes, refusal-27, refusal-4, refusal-0}
+use Rattle.calls.proofs.Standing.{Standing, is-so}
 use Rattle.calls.proofs.Ends.{Ends, roomy, First, ends-refused, ends-first, first-none, ends-taken, ends-quiet, ends-still}
 use Rattle.emission.specs.Written.{Written, Adds}
 use Rattle.emission.proofs.Adding.{none_written}
@@ -40,6 +40,10 @@ use Rattle.observation.proofs.Observing.{with_observations, stored_at, cleared_o
 use Rattle.observation.proofs.Observing.{judged_by, wrong-is, observation-is}
 
 -- ---- 27, 8 and 3
+
+-- a state that passes 27 has at most 32 participants
+pub few-of : (s : Held) {b : Bool} → b ≡ (represents s && is_sound (view s)) → b ≡ true → s.count ≤ 32
+few-of s e h = (count-bounds s (is-so (passes s (sym e ∙ h)).sound)).1
 
 -- 27, or where the state passes it the refusal of 8 and 3; k is whether the enclaves are known
 abbrev pub Tried : Given → Held → Bool → Refusal → Type 0
