@@ -22,7 +22,7 @@ use Rattle.state.specs.declared.Coordination.{Coordination}
 use Rattle.state.specs.declared.Completion.{Completion}
 use Rattle.state.specs.declared.Gate.{Gate}
 use Rattle.state.specs.declared.Parts.{Parts}
-use Rattle.state.specs.View.{view, put, represents}
+use Rattle.state.specs.View.{view, represents}
 use Rattle.state.specs.Parts.{Sized, row_of, parts_of, rebuilt, cleared, with_coordination, with_completion, with_gate}
 use Rattle.state.specs.Decides.{Good, Decides, halfway, neat_parts}
 use Rattle.state.proofs.Neat.{place-parts, neat-place, neat-coordination, neat-completion, neat-failure}
