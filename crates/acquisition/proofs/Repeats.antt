@@ -1,11 +1,10 @@
 -- When "Publication sent" and `input_progress` are an acquisition, and when nothing: by what the code tests of the pending publication, the horizon
 -- and the stored acquisition. The tag that is repeated is one of a sound state, so it is proper. Assumes nothing.
 use mathlib.Core.Path.{◌≡◌, refl, sym, ap, ◌∙◌}
-use mathlib.Core.Bool.{Bool, true, false, not, cond, ◌&&◌}
+use mathlib.Core.Bool.{Bool, true, false, cond, ◌&&◌}
 use Prim.Native.Nat.{ℕ, ◌+◌, ◌*◌, ◌≤◌}
 use native.Mathlib.Omega.{arith}
 use lib.Dec.{T}
-use borrow.Author.Tests.{not-true, not-false}
 use Rattle.tags.specs.Tags.{is_proper, proper_if_present, is_present, is_at_or_below}
 use Rattle.rules.specs.Model.{Tag, OptionalTag, NoTag, At, NoneStored, Stored, acquire, sent, progress}
 use Rattle.rules.specs.Walk.{quiet}
@@ -85,17 +84,17 @@ module _ (s : Held) (r : ℕ) (n h : OptionalTag) where
       go false b = refl
 
   module _ (b : Bool) (e : b ≡ due) where
-    pub sent-nothing : not b ≡ true → take_step (sent r n h) (view s) ≡ quiet (view s)
-    sent-nothing y = sent-by ∙ rw (sym e ∙ not-true b y) refl
+    pub sent-nothing : b ≡ false → take_step (sent r n h) (view s) ≡ quiet (view s)
+    sent-nothing y = sent-by ∙ rw (sym e ∙ y) refl
 
-    pub sent-due : not b ≡ false → take_step (acquire r horizon) (view s) ≡ take_step (sent r n h) (view s)
+    pub sent-due : b ≡ true → take_step (acquire r horizon) (view s) ≡ take_step (sent r n h) (view s)
     unfolding take_step own_step
-    sent-due y = sym (sent-by ∙ rw (sym e ∙ not-false b y) refl)
+    sent-due y = sym (sent-by ∙ rw (sym e ∙ y) refl)
 
-    pub horizon-proper : Standing s → not b ≡ false → is_proper horizon ≡ true
+    pub horizon-proper : Standing s → b ≡ true → is_proper horizon ≡ true
     horizon-proper st y =
         holds-true (is_proper horizon)
-        (go (same_publication (view s).pending_publication r n h) (is_absent horizon) (sym e ∙ not-false b y) (sound-proper-horizon (view s) st.good.sound))
+        (go (same_publication (view s).pending_publication r n h) (is_absent horizon) (sym e ∙ y) (sound-proper-horizon (view s) st.good.sound))
       where
         go : (a b : Bool) → (a && (is_present (cond b NoTag (At horizon)) && is_at_or_below n horizon)) ≡ true → T (proper_if_present (cond b NoTag (At horizon))) → T (is_proper horizon)
         go true true e k = absurd (let z : ◌≡◌ {A = ℕ} 0 1 = cc in omega arith)
