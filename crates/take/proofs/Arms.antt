@@ -4,7 +4,7 @@ use mathlib.Core.Path.{◌≡◌, refl, sym, ap, ◌∙◌, subst, subst⁻¹}
 use mathlib.Core.Bool.{Bool, true, false, not, cond, ◌&&◌}
 use mathlib.Core.List.{List, []}
 use mathlib.Core.Option.{some}
-use Prim.Native.Nat.{ℕ, ◌≤◌}
+use Prim.Native.Nat.{ℕ}
 use native.Mathlib.Omega.{arith}
 use lib.Dec.{T, leb, eqb}
 use lib.ListN.{length, take}
@@ -13,7 +13,7 @@ use borrow.Author.Tests.{le-leb, lt-leb, eqb-true}
 use Rattle.octets.specs.Runs.{put_at}
 use Rattle.octets.proofs.Runs.{put-nil}
 use Rattle.actions.specs.Record.{records_of}
-use Rattle.rules.specs.Model.{Tag, OptionalTag, Silent, State, Call, Given, horizon, begin, late, done, input}
+use Rattle.rules.specs.Model.{Tag, OptionalTag, State, Call, Given, horizon, begin, late, done, input}
 use Rattle.rules.specs.Walk.{quiet}
 use Rattle.rules.specs.Gate.{may_begin, begun, begin_tag_of, input_publishing_of}
 use Rattle.rules.specs.Calls.{facts, own_step, take_step, is_sound, refusal}
@@ -26,19 +26,15 @@ use Rattle.state.proofs.Put.{put_view}
 use Rattle.calls.specs.declared.Reply.{Reply}
 use Rattle.calls.specs.declared.Called.{Called}
 use Rattle.calls.proofs.Refusals.{passes}
-use Rattle.calls.specs.Called.{Promised, lent, refusal_of, state_of, actions_of, answer_of, replied}
+use Rattle.calls.specs.Called.{Promised, lent, refusal_of, state_of, actions_of, answer_of}
 use Rattle.numerals.proofs.Splits.{by_order}
 use Rattle.gate.specs.Replies.{Replies}
 use Rattle.events.specs.declared.Event.{Event}
-use Rattle.events.specs.declared.Event.TheVariants.{NoEvent, Input}
-use Rattle.records.specs.declared.Refusal.TheVariants.{ScriptOutOfForm}
+use Rattle.events.specs.declared.Event.TheVariants.{Input}
 use Rattle.events.specs.Told.{told_event}
 use Rattle.records.specs.declared.SchedulerMessage.{SchedulerMessage}
 use Rattle.dispatch.specs.Messages.{call_of}
 use Rattle.take.specs.Takes.{Takes, TakesCall}
-
-pub takes-nothing : (x : Event) (es : List ℕ) → x ≡ NoEvent → (s : Held) (room : List ℕ) (r : Called) → r ≡ replied s ScriptOutOfForm Silent 0 → Takes (told_event x es) s room room r
-takes-nothing x es e s room r h = subst (λ o. Takes o s room room r) (sym (ap (λ z. told_event z es) e)) (h, refl)
 
 -- the event is this one, and this one tells the call
 pub takes-as : (x y : Event) (es : List ℕ) (c : Call) → x ≡ y → told_event y es ≡ some c → (s : Held) (before after : List ℕ) (r : Called) → TakesCall c s before after r → Takes (told_event x es) s before after r
@@ -140,9 +136,6 @@ module _ (c : Call) (s : Held) (sized : Sized s) (same : (take_step c (view s)).
 
 pub at-most-length : (n : ℕ) (es : List ℕ) → take (cond (leb n (length es)) n (length es)) es ≡ take n es
 at-most-length n es = by_order n (length es) (λ h. rw (le-leb n (length es) h) refl) (λ h. rw (lt-leb n (length es) h) (take_all (length es) es (omega arith) ∙ sym (take_all n es (omega arith))))
-
-pub at-most-within : (n k : ℕ) → cond (leb n k) n k ≤ k
-at-most-within n k = by_order n k (λ h. rw (le-leb n k h) h) (λ h. rw (lt-leb n k h) (omega arith))
 
 -- the part of the list that was lent is what the event names
 pub takes-input : (x : Event) (n k : ℕ) (es part : List ℕ) → x ≡ Input n → k ≡ cond (leb n (length es)) n (length es) → part ≡ take k es → (s : Held) (room : List ℕ) (r : Called)
