@@ -1,4 +1,5 @@
 -- `completion::observe_completion` is the first half of `observed_of`, and keeps the parts neat: each return by the law of Halves for the tests on its way.
+-- Assumes nothing.
 use borrow.Author.Tests.{eq-eqb, ne_eqb}
 use Rattle.tags.specs.Branches.{is_true, is_false}
 use Rattle.completion.proofs.Halves.{observed-neat, observed-stores, observed-outdated, observed-unasked}

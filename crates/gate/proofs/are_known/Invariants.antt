@@ -1,3 +1,4 @@
+-- `gate::are_known` is `all_found`: at each turn it is that of the rest. Assumes nothing.
 use mathlib.Core.Path.{◌≡◌}
 use Prim.Native.Nat.{◌-◌}
 use lib.ListN.{length, drop}

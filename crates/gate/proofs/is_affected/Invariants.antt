@@ -1,3 +1,4 @@
+-- `gate::is_affected` is `among`: at each turn it is to be found in the rest. Assumes nothing.
 use mathlib.Core.Path.{◌≡◌}
 use Prim.Native.Nat.{◌-◌}
 use lib.ListN.{length, drop}

@@ -1,3 +1,4 @@
+-- `numerals::find` meets its contract. The invariant: what is found from i on, with i, is what is found in all. Assumes nothing.
 use Prim.Native.Nat.{◌+◌, ◌-◌, ◌≤◌}
 use mathlib.Core.Path.{◌≡◌}
 use lib.ListN.{length, drop}

@@ -1,4 +1,4 @@
--- `bytes::put_run` meets its contract. The invariant: the first i bytes of the run are pasted in. Assumes nothing.
+-- `octets::put_run` meets its contract. The invariant: the first i bytes of the run are pasted in. Assumes nothing.
 use Prim.Native.Nat.{◌≤◌, ◌+◌, ◌-◌, ◌<◌}
 use mathlib.Core.Path.{◌≡◌, refl, sym, ap, ◌∙◌}
 use native.Mathlib.Nat.{le_antisymm}

@@ -1,4 +1,4 @@
--- `bytes::same_bytes` meets its contract. The invariant: the comparison of what is left from i on is the comparison of the whole. Assumes nothing.
+-- `octets::same_bytes` meets its contract. The invariant: the comparison of what is left from i on is the comparison of the whole. Assumes nothing.
 use Prim.Native.Nat.{◌≤◌, ◌-◌}
 use mathlib.Core.Path.{◌≡◌, refl, sym, ◌∙◌}
 use native.Mathlib.Numerals.{add-one}

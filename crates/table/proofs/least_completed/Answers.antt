@@ -1,4 +1,5 @@
 -- `table::least_completed` is the cell of the fold `least_from`, taken from the last place down, if all places have a tag: one that has none ends the walk.
+-- Assumes nothing.
 use mathlib.Core.Path.{refl}
 use Prim.Native.Nat.{◌-◌}
 use borrow.Author.Rules.{rules}

@@ -1,3 +1,4 @@
+-- `load::busy::play` is safe and ends: the places of a stage count up to the enclaves, and the turns to the last. Assumes nothing.
 use Prim.Native.Nat.{◌*◌, ◌-◌, ◌≤◌}
 use Rattle.load.proofs.busy.play.Given as goal
 

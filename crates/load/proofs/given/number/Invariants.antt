@@ -1,3 +1,4 @@
+-- `load::given::number` is safe, ends and stays within its limit: there are no more blanks than bytes. Assumes nothing.
 use Prim.Native.Nat.{◌-◌, ◌≤◌}
 use lib.ListN.{length}
 use Rattle.load.proofs.given.number.Given as goal

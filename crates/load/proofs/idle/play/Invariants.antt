@@ -1,3 +1,4 @@
+-- `load::idle::play` is safe and ends: each step lies after the one before, and none after the last turn. Assumes nothing.
 use Prim.Native.Nat.{◌+◌, ◌*◌, ◌-◌, ◌≤◌}
 use Rattle.load.proofs.idle.play.Given as goal
 

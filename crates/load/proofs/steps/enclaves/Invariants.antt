@@ -1,3 +1,4 @@
+-- `load::steps::enclaves` is safe and ends: an index is at most 4,095 for each place before its own. Assumes nothing.
 use mathlib.Core.Path.{◌≡◌}
 use Prim.Native.Nat.{◌*◌, ◌-◌, ◌≤◌}
 use lib.ListN.{length}
