@@ -21,7 +21,7 @@ use Rattle.rules.specs.Observation.{agreed, all_observed, awaits, idle_confirmat
 use Rattle.rules.specs.Publication.{activate_of, all_published, announce, deactivated, enlist, forget, idle_probe, least_candidate, publish_by, publish_of, repeated, revise_of, store, unpublish}
 use Rattle.rules.specs.Set.{with_completed, with_completion_observed, with_completion_probe, with_started}
 use Rattle.rules.specs.Stop.{fail_of, stop_of}
-use Rattle.rules.specs.Walk.{all, any, at, each, every, find, greatest_of, is, is_stopped, knows, least_of, only, outdated}
+use Rattle.rules.specs.Walk.{all, at, each, every, find, greatest_of, is, is_stopped, knows, least_of, only, outdated}
 use Rattle.rules.proofs.Frame.{if-true}
 use Rattle.rules.proofs.Invariants.{each-onto}
 use Rattle.rules.proofs.Lists.{and_left, and_right, each-++, each_map}

@@ -10,10 +10,10 @@ use mathlib.Core.Option.{Option, none, some}
 use Rattle.tags.specs.Tags.{◌≤ₜ◌, greater_present, has_reached, is_below, is_present, lesser_of_both, same_optional}
 use Rattle.tags.proofs.Order.{≤ₜ-refl}
 use Rattle.rules.specs.Acquisition.{acquisition_of}
-use Rattle.rules.specs.Calls.{also, call, facts, is_taken, own_step, someone, take_step, then_advance}
+use Rattle.rules.specs.Calls.{also, call, facts, is_taken, own_step, take_step, then_advance}
 use Rattle.rules.specs.Completion.{advance_of, advance_to, all_answered, answers_probe, asks, blocks, complete_all, complete_by, complete_of, complete_tag_of, finish, front_of, has_answered, is_held, lags, least_completed, marked, next_generation, noted, observed_of, probe_for}
 use Rattle.rules.specs.Demands.{Answered, Consistent, Course, Each, IfNone, Late, LateGiven, NonEmpty, ProbeIsAnswered, Stale, UpTo, acknowledgement, acquisition, as_call, given, named, observation, probe_name, remove, state_after, still_missing}
-use Rattle.rules.specs.Model.{At, AwaitingIdleConfirmation, Call, Complete, CoordinationAction, Given, NoNumber, NoTag, Number, OptionalInputs, OptionalNumber, OptionalTag, Participant, State, Step, Tag, late}
+use Rattle.rules.specs.Model.{At, AwaitingIdleConfirmation, Call, Complete, CoordinationAction, Given, NoNumber, NoTag, Number, OptionalInputs, OptionalNumber, OptionalTag, Participant, State, Step, Tag}
 use Rattle.rules.specs.Observation.{observation_of, unheard}
 use Rattle.rules.specs.Set.{with_completion_observed, with_completion_probe}
 use Rattle.rules.specs.Walk.{all, any, at, each, find, greatest_of, is, is_number, is_stopped, only, outdated, quiet}

@@ -11,7 +11,7 @@ use native.Mathlib.Nat.{le_trans, le_antisymm}
 use native.Mathlib.Omega.{arith}
 use lib.Dec.{T, eqb→eq, ltb, eqb}
 use Rattle.tags.specs.Tags.{is_below, is_present, same_optional}
-use Rattle.rules.specs.Calls.{call, facts, is_taken, own_step, run_calls, says, take_step}
+use Rattle.rules.specs.Calls.{call, facts, is_taken, own_step, run_calls, take_step}
 use Rattle.rules.specs.Completion.{advance_of, advance_to, all_answered, answers_probe, complete_all, complete_by, complete_tag_of, finish, front_of, is_held, least_completed, next_generation, noted, observed_of, probe_for}
 use Rattle.rules.specs.Demands.{Acknowledges, CompleteIsGrounded, Each, Grounded, Heard, Opening, completes, start, state_after}
 use Rattle.rules.specs.Model.{At, Call, Given, NoNumber, NoTag, Number, OptionalNumber, OptionalTag, Participant, State, Step, Tag, complete, observed}

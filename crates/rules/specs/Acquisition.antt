@@ -1,6 +1,6 @@
 -- Document 01, "Acquisition", "Publication sent" and `input_progress` of "Gate" (state.rs: handle_acquisition, handle_publication_sent,
 -- input_progress). Assumes nothing.
-use Rattle.std.specs.Prelude.{ℕ, Bool, true, false, not, cond, ◌&&◌, ◌||◌, List, [], ◌∷◌, eqb}
+use Rattle.std.specs.Prelude.{ℕ, Bool, true, false, not, cond, ◌&&◌, ◌||◌, ◌∷◌, eqb}
 use Rattle.tags.specs.Tags.{◌≤ₜ◌, ◌<ₜ◌, greater_of, is_at_or_below, same_optional, is_present, capped_by}
 use Rattle.rules.specs.Model.{Tag, OptionalTag, NoTag, At, OptionalPublication, NonePending, Pending, OptionalAcquisition, NoneStored, Stored, Participant, CoordinationAction, AdvanceHorizon, Grant, State, Step}
 use Rattle.rules.specs.Set.{with_published, with_granted, with_pending_publication, with_grant_horizon, with_input_acquisition}

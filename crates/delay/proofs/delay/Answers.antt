@@ -1,6 +1,5 @@
 -- `delay::delay` is `delay_of`, by its three tests in their order. Assumes nothing.
 use mathlib.Core.Path.{refl}
-use borrow.Author.Rules.{rules}
 use Rattle.tags.specs.Branches.{is_true, is_false}
 use Rattle.delay.specs.Delay.{delay_of}
 use Rattle.delay.proofs.delay.Goals as goal

@@ -1,8 +1,7 @@
 -- `delay::move_with_carry` is `moved_of` at the sum's total: a carry or a borrow keeps it, and where there is no room for one it leaves the range. Assumes nothing.
 use mathlib.Core.Path.{◌∙◌}
-use borrow.Author.Rules.{rules}
 use Rattle.tags.specs.Branches.{is_true, is_false}
-use Rattle.delay.proofs.Exact.{carry-fits, borrow-fits, carry-within, borrow-within, within-second, carry-moved, borrow-moved, carry-out, borrow-out}
+use Rattle.delay.proofs.Exact.{borrow-moved, carry-out, borrow-out}
 use Rattle.delay.proofs.move_with_carry.Goals as goal
 
 pub returns-then-nanoseconds_below : goal.returns-then-nanoseconds_below

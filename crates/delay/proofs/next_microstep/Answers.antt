@@ -1,7 +1,6 @@
 -- `delay::next_microstep` is `stepped_of`, by its one test. Assumes nothing.
 use mathlib.Core.Path.{refl, ◌∙◌}
 use borrow.Author.Tests.{lt-ltb, le-ltb}
-use borrow.Author.Rules.{rules}
 use Rattle.tags.specs.Branches.{yes, no}
 use Rattle.delay.specs.Delay.{stepped_of}
 use Rattle.delay.proofs.next_microstep.Goals as goal

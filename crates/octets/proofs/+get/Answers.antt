@@ -2,7 +2,7 @@
 -- Assumes nothing.
 use Prim.Native.Nat.{◌<◌}
 use native.Mathlib.Omega.{arith}
-use Rattle.octets.proofs.LittleEndian.{num-none, num-past, pow_step, pow-positive, pow_8}
+use Rattle.octets.proofs.LittleEndian.{num-past, pow_step, pow-positive, pow_8}
 use Rattle.octets.proofs.+get.Goals as goal
 
 pub returns-then-s-at-clause-value : goal.returns-then-s-at-clause-value

@@ -1,11 +1,7 @@
-use Prim.Native.Nat.{◌≤◌, ◌+◌, ◌-◌, ◌<◌}
-use mathlib.Core.Path.{◌≡◌, refl, sym, ap, ◌∙◌}
-use native.Mathlib.Nat.{le_antisymm}
-use native.Mathlib.Numerals.{add-one}
-use native.Mathlib.Omega.{arith}
-use lib.ListN.{length, set, get_or, length-set}
-use lib.Seq.{paste, paste-zero, paste-suc}
-use Rattle.octets.proofs.Runs.{put-paste}
+use Prim.Native.Nat.{◌≤◌, ◌-◌}
+use mathlib.Core.Path.{◌≡◌}
+use lib.ListN.{length}
+use lib.Seq.{paste}
 use Rattle.octets.proofs.put_run.Given as goal
 
 abbrev pub invariant-loop-i : goal.invariant-loop-i
