@@ -6,7 +6,7 @@ use mathlib.Core.List.{List}
 use Prim.Native.Nat.{ℕ, ◌≤◌, ◌<◌, min}
 use native.Mathlib.Omega.{arith}
 use native.Mathlib.Nat.{min-le_left, min-eq_left, min-eq_right}
-use borrow.Author.Tests.{lt-ltb, le-ltb, eq-eqb, ne_eqb}
+use borrow.Author.Tests.{le-ltb}
 use lib.ListN.{length, take}
 use lib.Seq.{length-take-le}
 use Rattle.records.specs.Numbers.{refusal_number}
@@ -24,7 +24,7 @@ use Rattle.numerals.proofs.Splits.{by_order}
 use Rattle.events.specs.Told.{padded}
 use Rattle.eventlines.proofs.Listed.{length-padded, take-padded}
 use Rattle.printing.specs.Runs.{Puts}
-use Rattle.listing.specs.Listing.{end_line, misplaced_line, refused_line}
+use Rattle.listing.specs.Listing.{end_line}
 use Rattle.script.specs.declared.ReadScript.{ReadScript}
 use Rattle.script.specs.Lines.{Reading, Bad, Good}
 use Rattle.script.specs.Script.{Script, script_of}
@@ -32,7 +32,7 @@ use Rattle.script.specs.Read.{refused_at, answered, read_script_of}
 use Rattle.run.specs.declared.Running.{Running}
 use Rattle.session.specs.declared.Opened.{Opened}
 use Rattle.session.specs.Open.{is_too_long, form_refusal, form_place, nowhere, start_by, script_refusal, script_place, start_of, OpensScript}
-use Rattle.session.specs.Listing.{refusal_line, last_line, Lists}
+use Rattle.session.specs.Listing.{last_line, Lists}
 
 -- ---- the participants kept, and the opening of them
 
@@ -146,20 +146,10 @@ opens-made bytes r number made e n z o =
 
 -- ---- one line from byte 0 on
 
-pub lists-nothing : (most : ℕ) (line room : List ℕ) → length room < most → Lists most line room room 0
-lists-nothing most line room h = record { written = rw (lt-ltb (length room) most h) refl; bytes = rw (lt-ltb (length room) most h) refl }
-
 pub lists-line : {most n : ℕ} {line put room after : List ℕ} → most ≤ length room → Puts room 0 put most n after → put ≡ line → Lists most line room after n
 lists-line {most} {n} {line} {put} {room} h p e =
     rw (← e)
     record { written = rw (le-ltb (length room) most h) (omega (arith, p.after)); bytes = rw (le-ltb (length room) most h) p.bytes }
-
-module _ (refusal number place : ℕ) (is : number ≡ refusal) where
-  pub misplaced-told : number ≡ 11 → misplaced_line place ≡ refusal_line refusal place
-  misplaced-told h = rw (eq-eqb refusal 11 (sym is ∙ h)) refl
-
-  pub refused-told : (number ≡ 11 → ⊥) → refused_line refusal ≡ refusal_line refusal place
-  refused-told h = rw (ne_eqb refusal 11 (λ z. h (is ∙ z))) refl
 
 -- the last line, of a state that 27 refuses and of one that it takes
 pub end_refused : (s : Held) → (represents s && is_sound (view s)) ≡ false → end_line 0 Active 0 NoTag NoTag false ≡ last_line s
