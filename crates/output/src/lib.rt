@@ -1,5 +1,5 @@
-// A script's listing on standard output, for the programs that read scripts (document 01, "Script and its listing"). All that is written is made by crates
-// `run` and `session`; here is the loop. No contract can say what a program reads or writes.
+// A script's listing to a writer, for the programs that read scripts (document 01, "Script and its listing"). All that is written is made by crates
+// `run` and `session`; here is the loop, whose contracts say nothing of what is read or written.
 #![tactic(auto)]
 
 ghost use Rattle.std.specs.Prelude.{◌≡◌, length};
@@ -38,7 +38,7 @@ pub fn list_script<W: Write>(out: &mut W, script: &[u8], room: &mut [u8]) -> io:
     write_listing(out, room, last)
 }
 
-// Reads a script from standard input, after its length in 4 bytes, to the front of a room, if that has so many bytes, and lists it: whether there was one.
+// Reads a script from the input, after its length in 4 bytes, to the front of a room, if that has so many bytes, and lists it: whether there was one.
 pub fn list_next<R: Read, W: Write>(
     input: &mut R,
     out: &mut W,

@@ -1,4 +1,4 @@
-// Standard streams for the programs: a buffer filled from a reader as far as the input goes. No contract can say which bytes reach or leave the system.
+// Standard streams for the programs: a buffer filled from a reader as far as the input goes. What a reader has left is known where its type says it, and of standard input nothing is.
 #![tactic(auto)]
 
 ghost use Rattle.std.specs.Prelude.{◌≤◌, ◌<◌, length, take, IfOk};
