@@ -97,7 +97,7 @@ pub fn clear(cells: &mut [u8; 32], count: usize)
     requires { count ≤ 32 }
     ensures { cells.new ≡ cleared count cells.old }
 {
-    // Taken by value and put back: of a lent array the proof has no length.
+    // Taken by value and put back.
     let before = *cells;
     *cells = with_cleared(before, count);
 }

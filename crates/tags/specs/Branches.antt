@@ -47,5 +47,5 @@ is_true e t = sym e ∙ t
 pub is_false : {p r : Bool} → r ≡ p → r ≡ false → p ≡ false
 is_false e t = sym e ∙ t
 
--- what `search` follows the branches of a function by: `search (needs, branches)`
+-- what `search` follows the branches of a function by: `search (rules, branches)`
 pub ruleset branches = (yes-by, no-by, yes, no, yes-in, no-in, not_same, and_yes, and_no, or_yes, or_no)
