@@ -1,5 +1,6 @@
 -- A taken acquisition keeps its promise: the state with what `acquire` decided holds a state of document 01, is the entry state past the count and
 -- shows the rule's, and the records written one after the other are those of the rule's actions. Assumes nothing.
+use Rattle.std.specs.Prelude.{None}
 use mathlib.Core.Path.{◌≡◌, refl, ap, ◌∙◌}
 use mathlib.Core.Bool.{Bool, true, false}
 use mathlib.Core.List.{List, [], ◌∷◌}
@@ -9,8 +10,7 @@ use lib.Dec.{T}
 use lib.IntN.{pos}
 use lib.ListN.{length}
 use Rattle.tags.specs.Tags.{is_proper}
-use Rattle.records.specs.declared.Refusal.TheVariants.{Taken}
-use Rattle.rules.specs.Model.{Tag, AdvanceHorizon, Silent, acquire}
+use Rattle.rules.specs.Model.{Tag, AdvanceHorizon, acquire}
 use Rattle.rules.specs.Calls.{own_step, take_step}
 use Rattle.emission.specs.Written.{Adds}
 use Rattle.emission.proofs.Adding.{none_written}
@@ -62,7 +62,7 @@ module _ (n r : ℕ) (t : Tag) (s : Held) (st : Standing s) (zero_is : 0 ≡ ref
       microsteps = past_same place 0 s.count s.microsteps s.microsteps refl;
     }
 
-  pub stays-promised : (room : List ℕ) (c : Called) → a.grants ≡ false → c ≡ replied (with_gate a.gate s) Taken Silent 0
+  pub stays-promised : (room : List ℕ) (c : Called) → a.grants ≡ false → c ≡ replied (with_gate a.gate s) None None 0
       → Ends (lent n (acquire r t)) s c room room
   unfolding take_step own_step
   stays-promised room c h e =
@@ -70,11 +70,11 @@ module _ (n r : ℕ) (t : Tag) (s : Held) (st : Standing s) (zero_is : 0 ≡ ref
       let same : with_gate a.gate s ≡ acquired_in s a s.published = rw (k.0, k.1) refl in
       let past = past_same plain false s.count s.published s.published refl in
       ends-quiet (lent n (acquire r t)) s room refl st zero_is (acquired_in s a s.published)
-      (acquired-beyond s.published past) (acquired-neat s.published past) (decided.stays h) (e ∙ ap (λ (x : Held). replied x Taken Silent 0) same)
+      (acquired-beyond s.published past) (acquired-neat s.published past) (decided.stays h) (e ∙ ap (λ (x : Held). replied x None None 0) same)
 
   pub moves-promised : (room room₁ room₂ : List ℕ) (k₁ k₂ : ℕ) (qs : List Bool) (c : Called) → 56 * (s.count + 2) ≤ length room
       → a.grants ≡ true → Adds (AdvanceHorizon a.horizon ∷ []) room 0 room₁ k₁ → Adds (grants_in s a.tag) room₁ k₁ room₂ k₂
-      → Unpublished s.published s.seconds s.nanoseconds s.microsteps s.count a.tag qs → c ≡ replied (acquired_in s a qs) Taken Silent k₂
+      → Unpublished s.published s.seconds s.nanoseconds s.microsteps s.count a.tag qs → c ≡ replied (acquired_in s a qs) None None k₂
       → Ends (lent n (acquire r t)) s c room room₂
   unfolding take_step own_step
   moves-promised room room₁ room₂ k₁ k₂ qs c fits h advances grants u e =

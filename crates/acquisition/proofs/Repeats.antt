@@ -1,12 +1,13 @@
 -- When "Publication sent" and `input_progress` are an acquisition, and when nothing: by what the code tests of the pending publication, the horizon
 -- and the stored acquisition. The tag that is repeated is one of a sound state, so it is proper. Assumes nothing.
+use Rattle.std.specs.Prelude.{None, Option, Some}
 use mathlib.Core.Path.{◌≡◌, refl, sym, ap, ◌∙◌}
 use mathlib.Core.Bool.{Bool, true, false, cond, ◌&&◌}
 use Prim.Native.Nat.{ℕ, ◌+◌, ◌*◌, ◌≤◌}
 use native.Mathlib.Omega.{arith}
 use lib.Dec.{T}
 use Rattle.tags.specs.Tags.{is_proper, proper_if_present, is_present, is_at_or_below}
-use Rattle.rules.specs.Model.{Tag, OptionalTag, NoTag, At, NoneStored, Stored, acquire, sent, progress}
+use Rattle.rules.specs.Model.{Tag, NoneStored, Stored, acquire, sent, progress}
 use Rattle.rules.specs.Walk.{quiet}
 use Rattle.rules.specs.Acquisition.{acquisition_of, same_publication, sent_under, publication_sent_of, progress_by}
 use Rattle.rules.specs.Calls.{own_step, take_step, proper_acquisition}
@@ -60,7 +61,7 @@ module _ (s : Held) where
 
 -- ---- publication sent
 
-module _ (s : Held) (r : ℕ) (n h : OptionalTag) where
+module _ (s : Held) (r : ℕ) (n h : Option Tag) where
   abbrev horizon : Tag
   horizon = s.grant_horizon
 
@@ -77,8 +78,8 @@ module _ (s : Held) (r : ℕ) (n h : OptionalTag) where
   unfolding take_step own_step publication_sent_of sent_under
   sent-by = go (same_publication (view s).pending_publication r n h) (is_absent horizon)
     where
-      go : (a b : Bool) → cond a (sent_under (cond b NoTag (At horizon)) r n (view s)) (quiet (view s))
-          ≡ cond (a && (is_present (cond b NoTag (At horizon)) && is_at_or_below n horizon)) (acquisition_of r horizon (view s)) (quiet (view s))
+      go : (a b : Bool) → cond a (sent_under (cond b None (Some horizon)) r n (view s)) (quiet (view s))
+          ≡ cond (a && (is_present (cond b None (Some horizon)) && is_at_or_below n horizon)) (acquisition_of r horizon (view s)) (quiet (view s))
       go true true = refl
       go true false = refl
       go false b = refl
@@ -96,7 +97,7 @@ module _ (s : Held) (r : ℕ) (n h : OptionalTag) where
         holds-true (is_proper horizon)
         (go (same_publication (view s).pending_publication r n h) (is_absent horizon) (sym e ∙ y) (sound-proper-horizon (view s) st.good.sound))
       where
-        go : (a b : Bool) → (a && (is_present (cond b NoTag (At horizon)) && is_at_or_below n horizon)) ≡ true → T (proper_if_present (cond b NoTag (At horizon))) → T (is_proper horizon)
+        go : (a b : Bool) → (a && (is_present (cond b None (Some horizon)) && is_at_or_below n horizon)) ≡ true → T (proper_if_present (cond b None (Some horizon))) → T (is_proper horizon)
         go true true e k = absurd (let z : ◌≡◌ {A = ℕ} 0 1 = cc in omega arith)
         go true false e k = k
         go false b e k = absurd (let z : ◌≡◌ {A = ℕ} 0 1 = cc in omega arith)

@@ -15,11 +15,11 @@ ghost use Rattle.acquisition.specs.Pending.{pending_of};
 ghost use Rattle.acquisition.specs.Unless.{unless_refused};
 
 use calls::Called;
-use records::{Answer, FederateAcquisition, FederatePublication, Refusal};
+use records::{FederateAcquisition, FederatePublication, Refusal};
 use state::{Coordination, FederateCoordinationState};
-use tags::{OptionalTag, Tag};
+use tags::Tag;
 
-fn holds(cell: Tag, m: OptionalTag) -> bool
+fn holds(cell: Tag, m: Option<Tag>) -> bool
     ensures { result ≡ same_optional (optional_of cell) m }
 {
     tags::same_optional(state::optional_of(cell), m)
@@ -44,7 +44,7 @@ fn is_pending(c: Coordination, p: FederatePublication) -> bool
     holds(pending_horizon, grant_horizon)
 }
 
-fn is_reached(horizon: Tag, next_event: OptionalTag) -> bool
+fn is_reached(horizon: Tag, next_event: Option<Tag>) -> bool
     ensures { result ≡ (is_present (optional_of horizon) && is_at_or_below next_event horizon) }
 {
     if state::is_absent(horizon) {
@@ -123,12 +123,12 @@ pub fn handle_acquisition(
         count,
         small,
     ) {
-        return calls::with_reply(state, Refusal::UnsoundState, Answer::Silent, 0);
+        return calls::with_reply(state, Some(Refusal::UnsoundState), None, 0);
     }
     let proper = tags::is_proper(acquisition.granted);
     let refusal = calls::room_first(room.len(), count, calls::tag_first(proper, true));
     if records::refusal_number(refusal) != 0 {
-        return calls::with_reply(state, refusal, Answer::Silent, 0);
+        return calls::with_reply(state, refusal, None, 0);
     }
     let held_coordination = state::coordination_by_fields(state.coordination);
     let held_gate = state::gate_by_fields(state.gate);
@@ -142,7 +142,7 @@ pub fn handle_acquisition(
     let opened = acquired.gate;
     state.gate = opened;
     if !acquired.grants {
-        return calls::with_reply(state, Refusal::Taken, Answer::Silent, 0);
+        return calls::with_reply(state, None, None, 0);
     }
     let settled = acquired.coordination;
     let further = acquired.horizon;
@@ -171,18 +171,18 @@ pub fn handle_acquisition(
         reach,
     );
     state.published = left;
-    calls::with_reply(state, Refusal::Taken, Answer::Silent, written)
+    calls::with_reply(state, None, None, written)
 }
 
 // 27 and 8 before a refusal that comes later, or before none, with the state as it came.
-fn unless_refused(state: FederateCoordinationState, room: usize, later: Refusal) -> Called
+fn unless_refused(state: FederateCoordinationState, room: usize, later: Option<Refusal>) -> Called
     ensures { result ≡ unless_refused state room later }
 {
     if !soundness::is_sound(state) {
-        return calls::with_reply(state, Refusal::UnsoundState, Answer::Silent, 0);
+        return calls::with_reply(state, Some(Refusal::UnsoundState), None, 0);
     }
     let refusal = calls::room_first(room, state.count, later);
-    calls::with_reply(state, refusal, Answer::Silent, 0)
+    calls::with_reply(state, refusal, None, 0)
 }
 
 // A publication was sent: if it is the pending one and its next event is at or below the horizon, an acquisition of its revision and the horizon.
@@ -195,12 +195,12 @@ pub fn handle_publication_sent(
     ensures bytes { room.new ≡ put_at room.old 0 (records_of (actions_of (lent (length room.old) (sent publication.revision publication.next_event publication.grant_horizon)) state)) }
 {
     if !has_proper_tags(publication) {
-        return unless_refused(state, room.len(), Refusal::ImproperTag);
+        return unless_refused(state, room.len(), Some(Refusal::ImproperTag));
     }
     let coordination = state.coordination;
     let horizon = state.grant_horizon;
     if !is_due(coordination, horizon, publication) {
-        return unless_refused(state, room.len(), Refusal::Taken);
+        return unless_refused(state, room.len(), None);
     }
     let acquisition = FederateAcquisition {
         revision: publication.revision,
@@ -217,7 +217,7 @@ pub fn input_progress(state: FederateCoordinationState, room: &mut [u8]) -> Call
     let gate = state.gate;
     let granted = gate.stored_granted;
     if state::is_absent(granted) {
-        return unless_refused(state, room.len(), Refusal::Taken);
+        return unless_refused(state, room.len(), None);
     }
     let acquisition = FederateAcquisition {
         revision: gate.stored_revision,

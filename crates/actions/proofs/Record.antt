@@ -1,12 +1,12 @@
 -- Records are 56 bytes, and one put right after others makes the records of one action more. Assumes nothing.
+use Rattle.std.specs.Prelude.{None, Option, Some}
+use Rattle.tags.specs.declared.Tag.{Tag}
 use mathlib.Core.Path.{◌≡◌, refl, sym, ◌∙◌}
 use mathlib.Core.Bool.{Bool, true, false, cond}
 use mathlib.Core.List.{List, [], ◌∷◌, ◌++◌, append_assoc, append-nil}
 use Prim.Native.Nat.{ℕ, ◌+◌, ◌*◌, ◌≤◌}
 use native.Mathlib.Omega.{arith}
 use lib.ListN.{length, length-append}
-use Rattle.tags.specs.declared.OptionalTag.{OptionalTag}
-use Rattle.tags.specs.declared.OptionalTag.TheVariants.{NoTag, At}
 use Rattle.records.specs.declared.CoordinationAction.{CoordinationAction}
 use Rattle.octets.specs.Runs.{put_at, fits_at, written}
 use Rattle.octets.proofs.Runs.{put-append, put_whole, written-fits}
@@ -18,9 +18,9 @@ pub flag-le : (raised : Bool) (value : ℕ) → cond raised value 0 ≤ value
 flag-le true value = omega arith
 flag-le false value = omega arith
 
-pub length-optional : (m : OptionalTag) → length (optional_bytes m) ≡ 20
-length-optional NoTag = refl
-length-optional (At t) = refl
+pub length-optional : (m : Option Tag) → length (optional_bytes m) ≡ 20
+length-optional None = refl
+length-optional (Some t) = refl
 
 pub length-bytes : (f : Fields) → length (bytes_of f) ≡ 56
 unfolding bytes_of

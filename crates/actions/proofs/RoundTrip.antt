@@ -1,5 +1,6 @@
 -- The demands of specs/Demands.antt. An action's own fields, read from its record, make the action again, and the reader confirms it; what
 -- the reader confirms is a record by its very test; so 28 is given exactly where there is none. Assumes nothing.
+use Rattle.std.specs.Prelude.{None, Option, Some}
 use mathlib.Core.Path.{◌≡◌, refl, sym, ap, ◌∙◌}
 use mathlib.Core.Bool.{Bool, true, false, cond, ◌&&◌}
 use mathlib.Core.List.{List, [], ◌∷◌, ◌++◌, append_assoc}
@@ -14,8 +15,6 @@ use mir.Syntax.{w32, w64}
 use mir.Val.{Fits}
 use mir.Facts.{Fits-lit, Fits-of_z, sfits_to_z}
 use Rattle.tags.specs.declared.Tag.{Tag}
-use Rattle.tags.specs.declared.OptionalTag.{OptionalTag}
-use Rattle.tags.specs.declared.OptionalTag.TheVariants.{NoTag, At}
 use Rattle.records.specs.declared.CoordinationAction.{CoordinationAction}
 use Rattle.records.specs.declared.CoordinationAction.TheVariants as action
 use Rattle.octets.specs.LittleEndian.{AreBytes, num_at}
@@ -47,13 +46,13 @@ network-back : (b : Bool) → eqb ((1 + 0 + cond b 4 0) / 4 % 2) 1 ≡ b
 network-back true = refl
 network-back false = refl
 
-publication-back : (r : ℕ) (m n : OptionalTag) (later : List ℕ) → Fits w64 r → FitsOptional m → FitsOptional n
+publication-back : (r : ℕ) (m n : Option Tag) (later : List ℕ) → Fits w64 r → FitsOptional m → FitsOptional n
     → publication_at (bytes_of (fields 1 0 r m n false) ++ later) ≡ record { revision = r; next_event = m; grant_horizon = n }
 unfolding bytes_of
-publication-back r NoTag NoTag later f g h = rw (unle-le 8 r f.fits)
-publication-back r NoTag (At u) later f g h = rw (unle-le 8 r f.fits, tag_back u h)
-publication-back r (At t) NoTag later f g h = rw (unle-le 8 r f.fits, tag_back t g)
-publication-back r (At t) (At u) later f g h = rw (unle-le 8 r f.fits, tag_back t g, tag_back u h)
+publication-back r None None later f g h = rw (unle-le 8 r f.fits)
+publication-back r None (Some u) later f g h = rw (unle-le 8 r f.fits, tag_back u h)
+publication-back r (Some t) None later f g h = rw (unle-le 8 r f.fits, tag_back t g)
+publication-back r (Some t) (Some u) later f g h = rw (unle-le 8 r f.fits, tag_back t g, tag_back u h)
 
 -- the candidate of an action's own record is the action
 candidate-back : (a : CoordinationAction) (later : List ℕ) → FitsWidths a → candidate_of (get_or (record_of a ++ later) 0 0) (record_of a ++ later) ≡ Action a

@@ -1,11 +1,9 @@
 -- What holds of action records beyond the promises (document 01, "Action record" and refusal 28), stated; proofs/RoundTrip.antt proves each.
 -- Assumes nothing.
-use Rattle.std.specs.Prelude.{ℕ, ◌*◌, ◌<◌, ◌≡◌, true, List, ◌++◌, ◌⊎◌, length, take, drop, get_or}
+use Rattle.std.specs.Prelude.{ℕ, ◌*◌, ◌<◌, ◌≡◌, true, List, ◌++◌, ◌⊎◌, length, take, drop, get_or, None, Option, Some}
 use Rattle.std.specs.Int.{w32, w64}
 use Rattle.std.proofs.Common.{Fits, SFits}
 use Rattle.tags.specs.declared.Tag.{Tag}
-use Rattle.tags.specs.declared.OptionalTag.{OptionalTag}
-use Rattle.tags.specs.declared.OptionalTag.TheVariants.{NoTag, At}
 use Rattle.records.specs.declared.CoordinationAction.{CoordinationAction}
 use Rattle.octets.specs.LittleEndian.{AreBytes}
 use Rattle.actions.specs.Record.{fields_of, record_of, records_of, proper_action}
@@ -17,9 +15,9 @@ pub record FitsTag (t : Tag) : Type 0 where
   pub nanoseconds : SFits w32 t.nanoseconds
   pub microstep : Fits w64 t.microstep
 
-abbrev pub FitsOptional : OptionalTag → Type 0
-FitsOptional NoTag = Unit {0}
-FitsOptional (At t) = FitsTag t
+abbrev pub FitsOptional : Option Tag → Type 0
+FitsOptional None = Unit {0}
+FitsOptional (Some t) = FitsTag t
 
 -- the action's numbers are of their widths, as those of every action that a program holds are
 pub record FitsWidths (a : CoordinationAction) : Type 0 where

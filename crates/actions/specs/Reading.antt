@@ -1,10 +1,8 @@
 -- Document 01, "Action record" and refusal 28: what reading the bytes of a record finds. Assumes nothing.
-use Rattle.std.specs.Prelude.{ℕ, ◌+◌, ◌/◌, ◌%◌, Bool, cond, ◌&&◌, List, leb, eqb, length, take, get_or}
+use Rattle.std.specs.Prelude.{ℕ, ◌+◌, ◌/◌, ◌%◌, Bool, cond, ◌&&◌, List, leb, eqb, length, take, get_or, None, Option, Some}
 use Rattle.std.specs.Int.{w32, w64}
 use Rattle.std.proofs.Common.{to_z}
 use Rattle.tags.specs.declared.Tag.{Tag}
-use Rattle.tags.specs.declared.OptionalTag.{OptionalTag}
-use Rattle.tags.specs.declared.OptionalTag.TheVariants.{NoTag, At}
 use Rattle.records.specs.Numbers.{refusal_number}
 use Rattle.records.specs.declared.FederatePublication.{FederatePublication}
 use Rattle.records.specs.declared.FederateCompletion.{FederateCompletion}
@@ -18,8 +16,8 @@ use Rattle.actions.specs.declared.ReadAction.TheVariants.{Action, NoActionRecord
 
 -- the refusal number of each case
 abbrev pub read_number : ReadAction → ℕ
-read_number (Action a) = refusal_number refusal.Taken
-read_number NoActionRecord = refusal_number refusal.NoActionRecord
+read_number (Action a) = refusal_number None
+read_number NoActionRecord = refusal_number (Some refusal.NoActionRecord)
 
 -- the fields at their places
 abbrev pub flag_at : ℕ → List ℕ → Bool
@@ -34,8 +32,8 @@ number_at s = num_at 8 s 8
 abbrev pub tag_at : List ℕ → ℕ → Tag
 tag_at s at = record { seconds = to_z w64 (num_at 8 s at); nanoseconds = to_z w32 (num_at 4 s (at + 8)); microstep = num_at 8 s (at + 12) }
 
-abbrev pub optional_at : Bool → List ℕ → ℕ → OptionalTag
-optional_at present s at = cond present (At (tag_at s at)) NoTag
+abbrev pub optional_at : Bool → List ℕ → ℕ → Option Tag
+optional_at present s at = cond present (Some (tag_at s at)) None
 
 abbrev pub publication_at : List ℕ → FederatePublication
 publication_at s = record { revision = number_at s; next_event = optional_at (flag_at 1 s) s 16; grant_horizon = optional_at (flag_at 2 s) s 36 }

@@ -1,34 +1,32 @@
 -- Document 01, "Action record, 56 bytes, little-endian": the bytes that an action writes. Assumes nothing.
-use Rattle.std.specs.Prelude.{ℕ, zero, suc, ◌+◌, Bool, false, cond, ◌&&◌, List, [], ◌∷◌, ◌++◌, replicate, get_or}
+use Rattle.std.specs.Prelude.{ℕ, zero, suc, ◌+◌, Bool, false, cond, ◌&&◌, List, [], ◌∷◌, ◌++◌, replicate, get_or, None, Option, Some}
 use Rattle.std.specs.Int.{w32, w64}
 use Rattle.std.proofs.Common.{of_z}
 use Rattle.tags.specs.Tags.{is_present, proper_if_present}
 use Rattle.tags.specs.declared.Tag.{Tag}
-use Rattle.tags.specs.declared.OptionalTag.{OptionalTag}
-use Rattle.tags.specs.declared.OptionalTag.TheVariants.{NoTag, At}
 use Rattle.records.specs.Numbers.{action_number}
 use Rattle.records.specs.declared.CoordinationAction.{CoordinationAction}
 use Rattle.records.specs.declared.CoordinationAction.TheVariants as action
 use Rattle.octets.specs.LittleEndian.{le}
 use Rattle.actions.specs.declared.Fields.{Fields}
 
-abbrev pub fields : ℕ → ℕ → ℕ → OptionalTag → OptionalTag → Bool → Fields
+abbrev pub fields : ℕ → ℕ → ℕ → Option Tag → Option Tag → Bool → Fields
 fields kind enclave number first second network =
     record { kind = kind; enclave = enclave; number = number; first = first; second = second; network_input = network }
 
 -- what each kind carries: enclave, revision or generation, tag, second tag ("Publish: horizon"), network input
 abbrev pub carried : ℕ → CoordinationAction → Fields
 carried kind (action.Publish p) = fields kind 0 p.revision p.next_event p.grant_horizon false
-carried kind (action.AdvanceHorizon t) = fields kind 0 0 (At t) NoTag false
-carried kind (action.Grant e t) = fields kind e 0 (At t) NoTag false
-carried kind (action.Complete c) = fields kind 0 0 (At c.completed) NoTag c.network_input
-carried kind (action.CompletionProbe e g) = fields kind e g NoTag NoTag false
-carried kind (action.Probe r) = fields kind 0 r NoTag NoTag false
-carried kind (action.Park r) = fields kind 0 r NoTag NoTag false
-carried kind (action.Recheck r) = fields kind 0 r NoTag NoTag false
-carried kind (action.Resume e r) = fields kind e r NoTag NoTag false
-carried kind action.Stop = fields kind 0 0 NoTag NoTag false
-carried kind action.Abort = fields kind 0 0 NoTag NoTag false
+carried kind (action.AdvanceHorizon t) = fields kind 0 0 (Some t) None false
+carried kind (action.Grant e t) = fields kind e 0 (Some t) None false
+carried kind (action.Complete c) = fields kind 0 0 (Some c.completed) None c.network_input
+carried kind (action.CompletionProbe e g) = fields kind e g None None false
+carried kind (action.Probe r) = fields kind 0 r None None false
+carried kind (action.Park r) = fields kind 0 r None None false
+carried kind (action.Recheck r) = fields kind 0 r None None false
+carried kind (action.Resume e r) = fields kind e r None None false
+carried kind action.Stop = fields kind 0 0 None None false
+carried kind action.Abort = fields kind 0 0 None None false
 
 abbrev pub fields_of : CoordinationAction → Fields
 fields_of a = carried (action_number a) a
@@ -46,9 +44,9 @@ abbrev pub tag_bytes : Tag → List ℕ
 tag_bytes t = le 8 (of_z w64 t.seconds) ++ le 4 (of_z w32 t.nanoseconds) ++ le 8 t.microstep
 
 -- "Unused fields are zero."
-abbrev pub optional_bytes : OptionalTag → List ℕ
-optional_bytes NoTag = replicate 20 0
-optional_bytes (At t) = tag_bytes t
+abbrev pub optional_bytes : Option Tag → List ℕ
+optional_bytes None = replicate 20 0
+optional_bytes (Some t) = tag_bytes t
 
 -- "16 tag; 36 second tag"
 unfoldable pub bytes_of : Fields → List ℕ

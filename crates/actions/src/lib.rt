@@ -3,15 +3,14 @@
 // make no action of their parts first; `read_action` refuses with 28 what is no action's record.
 #![tactic(auto)]
 
-ghost use Rattle.std.specs.Prelude.{◌≡◌, ◌+◌, ◌*◌, ◌≤◌, ◌<◌, false, ◌&&◌, ◌∷◌, ◌++◌, length, take, get_or};
+ghost use Rattle.std.specs.Prelude.{◌≡◌, ◌+◌, ◌*◌, ◌≤◌, ◌<◌, false, ◌&&◌, ◌∷◌, ◌++◌, length, take, get_or, None, Some};
 ghost use Rattle.octets.specs.Runs.{put_at, fits_at, written, same_bytes};
 ghost use Rattle.actions.specs.Record.{fields, fields_of, head_bytes, tag_bytes, optional_bytes, first_of, bytes_of, record_of, proper_action};
 ghost use Rattle.actions.specs.Reading.{tag_at, publication_at, candidate_of, read_action};
-ghost use Rattle.tags.specs.declared.OptionalTag.TheVariants.{NoTag, At};
 ghost use Rattle.records.specs.declared.CoordinationAction.TheVariants.{Publish, AdvanceHorizon, Grant, Complete};
 
 use records::{CoordinationAction, FederateCompletion, FederatePublication};
-use tags::{OptionalTag, Tag};
+use tags::Tag;
 
 // What a record's bytes are made of: what the action's kind does not use is zero, absent or no.
 #[derive(Clone, Copy)]
@@ -20,8 +19,8 @@ pub struct Fields {
     pub enclave: u32,
     // The revision or the generation.
     pub number: u64,
-    pub first: OptionalTag,
-    pub second: OptionalTag,
+    pub first: Option<Tag>,
+    pub second: Option<Tag>,
     pub network_input: bool,
 }
 
@@ -33,27 +32,27 @@ pub enum ReadAction {
 }
 
 fn untagged(kind: u8, enclave: u32, number: u64) -> Fields
-    ensures { result ≡ fields kind enclave number NoTag NoTag false }
+    ensures { result ≡ fields kind enclave number None None false }
 {
     Fields {
         kind,
         enclave,
         number,
-        first: OptionalTag::NoTag,
-        second: OptionalTag::NoTag,
+        first: None,
+        second: None,
         network_input: false,
     }
 }
 
 fn tagged(kind: u8, enclave: u32, tag: Tag, network_input: bool) -> Fields
-    ensures { result ≡ fields kind enclave 0 (At tag) NoTag network_input }
+    ensures { result ≡ fields kind enclave 0 (Some tag) None network_input }
 {
     Fields {
         kind,
         enclave,
         number: 0,
-        first: OptionalTag::At(tag),
-        second: OptionalTag::NoTag,
+        first: Some(tag),
+        second: None,
         network_input,
     }
 }
@@ -137,12 +136,12 @@ fn tag_bytes(t: Tag) -> [u8; 20]
     join_tag(seconds, nanoseconds, microstep)
 }
 
-fn optional_bytes(m: OptionalTag) -> [u8; 20]
+fn optional_bytes(m: Option<Tag>) -> [u8; 20]
     ensures { result ≡ optional_bytes m }
 {
     match m {
-        OptionalTag::NoTag => [0; 20],
-        OptionalTag::At(t) => tag_bytes(t),
+        None => [0; 20],
+        Some(t) => tag_bytes(t),
     }
 }
 
@@ -235,14 +234,14 @@ fn publication_at(s: &[u8]) -> FederatePublication
     let first = tag_at(s, 16);
     let second = tag_at(s, 36);
     let next_event = if flags % 2 == 1 {
-        OptionalTag::At(first)
+        Some(first)
     } else {
-        OptionalTag::NoTag
+        None
     };
     let grant_horizon = if flags / 2 % 2 == 1 {
-        OptionalTag::At(second)
+        Some(second)
     } else {
-        OptionalTag::NoTag
+        None
     };
     FederatePublication {
         revision: octets::get8(s, 8),

@@ -3,21 +3,19 @@
 // Any other number is refused 11, whatever the state; a query is refused 27 as in the crate queries, and answers then what is said there.
 #![tactic(auto)]
 
-ghost use Rattle.std.specs.Prelude.{◌≡◌};
+ghost use Rattle.std.specs.Prelude.{◌≡◌, None};
 ghost use Rattle.records.specs.Numbers.{refusal_number};
-ghost use Rattle.rules.specs.Model.{NoTag};
 ghost use Rattle.asking.specs.Answered.{asked_with, number_asked, bool_asked, phase_asked, tag_asked};
 ghost use Rattle.asking.specs.Answered.{enclave_asked, revision_asked, publication_asked, candidate_asked};
 ghost use Rattle.asking.specs.Asked.{asked_of};
 
 use plain::TagNumbers;
 use queries::{
-    BoolAnswer, CandidateAnswer, EnclaveAnswer, FoundCandidate, NumberAnswer, PhaseAnswer,
+    BoolAnswer, CandidateAnswer, EnclaveAnswer, NumberAnswer, PhaseAnswer,
     PublicationAnswer, RevisionAnswer, TagAnswer,
 };
-use records::{OptionalEnclave, OptionalNumber, OptionalPublication, Refusal};
+use records::Refusal;
 use state::FederateCoordinationState;
-use tags::OptionalTag;
 
 // A query's answer. What the query does not answer by is 0 or absent.
 #[repr(C)]
@@ -33,11 +31,11 @@ pub struct AskedNumbers {
 }
 
 fn asked(
-    refusal: Refusal,
+    refusal: Option<Refusal>,
     present: bool,
     number: u64,
-    first: OptionalTag,
-    second: OptionalTag,
+    first: Option<Tag>,
+    second: Option<Tag>,
 ) -> AskedNumbers
     ensures { result ≡ asked_with (refusal_number refusal) present number first second }
 {
@@ -50,15 +48,15 @@ fn asked(
     }
 }
 
-fn untagged(refusal: Refusal, present: bool, number: u64) -> AskedNumbers
-    ensures { result ≡ asked_with (refusal_number refusal) present number NoTag NoTag }
+fn untagged(refusal: Option<Refusal>, present: bool, number: u64) -> AskedNumbers
+    ensures { result ≡ asked_with (refusal_number refusal) present number None None }
 {
     asked(
         refusal,
         present,
         number,
-        OptionalTag::NoTag,
-        OptionalTag::NoTag,
+        None,
+        None,
     )
 }
 
@@ -83,7 +81,7 @@ fn phase_asked(a: PhaseAnswer) -> AskedNumbers
 {
     let refusal = a.refusal;
     let phase = a.answer;
-    let number = records::phase_number(phase) as u64;
+    let number = u8::from(phase) as u64;
     untagged(refusal, true, number)
 }
 
@@ -93,8 +91,8 @@ fn enclave_asked(a: EnclaveAnswer) -> AskedNumbers
     let refusal = a.refusal;
     let answer = a.answer;
     match answer {
-        OptionalEnclave::NoEnclave => untagged(refusal, false, 0),
-        OptionalEnclave::Enclave(e) => untagged(refusal, true, e as u64),
+        None => untagged(refusal, false, 0),
+        Some(e) => untagged(refusal, true, e as u64),
     }
 }
 
@@ -103,7 +101,7 @@ fn tag_asked(a: TagAnswer) -> AskedNumbers
 {
     let refusal = a.refusal;
     let tag = a.answer;
-    asked(refusal, tags::is_present(tag), 0, tag, OptionalTag::NoTag)
+    asked(refusal, tags::is_present(tag), 0, tag, None)
 }
 
 fn revision_asked(a: RevisionAnswer) -> AskedNumbers
@@ -112,8 +110,8 @@ fn revision_asked(a: RevisionAnswer) -> AskedNumbers
     let refusal = a.refusal;
     let answer = a.answer;
     match answer {
-        OptionalNumber::NoNumber => untagged(refusal, false, 0),
-        OptionalNumber::Number(n) => untagged(refusal, true, n),
+        None => untagged(refusal, false, 0),
+        Some(n) => untagged(refusal, true, n),
     }
 }
 
@@ -123,8 +121,8 @@ fn publication_asked(a: PublicationAnswer) -> AskedNumbers
     let refusal = a.refusal;
     let answer = a.answer;
     match answer {
-        OptionalPublication::NonePending => untagged(refusal, false, 0),
-        OptionalPublication::Pending(p) => {
+        None => untagged(refusal, false, 0),
+        Some(p) => {
             let next_event = p.next_event;
             let grant_horizon = p.grant_horizon;
             asked(refusal, true, p.revision, next_event, grant_horizon)
@@ -138,8 +136,8 @@ fn candidate_asked(a: CandidateAnswer) -> AskedNumbers
     let refusal = a.refusal;
     let answer = a.answer;
     match answer {
-        FoundCandidate::Unknown => untagged(refusal, false, 0),
-        FoundCandidate::Known(tag) => asked(refusal, true, 0, tag, OptionalTag::NoTag),
+        None => untagged(refusal, false, 0),
+        Some(tag) => asked(refusal, true, 0, tag, None),
     }
 }
 
@@ -160,6 +158,6 @@ pub fn ask(state: FederateCoordinationState, question: u8, enclave: u32) -> Aske
         9 => publication_asked(queries::pending_publication(state)),
         10 => revision_asked(queries::idle_confirmation_revision(state)),
         11 => candidate_asked(queries::candidate(state, enclave)),
-        0 | 12..=255 => untagged(Refusal::ScriptOutOfForm, false, 0),
+        0 | 12..=255 => untagged(Some(Refusal::ScriptOutOfForm), false, 0),
     }
 }

@@ -65,7 +65,7 @@ fn show_verdict<W: Write>(
 ) -> io::Result<()> {
     let verdict = verdicts::verdict(phase, observation);
     say(out, b"verdict")?;
-    say_number(out, records::verdict_number(verdict) as u64)?;
+    say_number(out, u8::from(verdict) as u64)?;
     say(out, b"\n")
 }
 
@@ -80,7 +80,7 @@ fn say_read<W: Write>(out: &mut W, bytes: &[u8]) -> io::Result<()> {
     let found = actions::read_action(bytes);
     match found {
         ReadAction::NoActionRecord => say(out, b" 28"),
-        ReadAction::Action(action) => say_number(out, records::action_number(action) as u64),
+        ReadAction::Action(action) => say_number(out, u8::from(action) as u64),
     }
 }
 

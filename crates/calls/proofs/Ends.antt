@@ -1,5 +1,6 @@
 -- How a call ends that lends a room: refused, with the state and the room as they were; or taken, with a state that shows the rule's and the records of
 -- its actions at the front of the room. Assumes nothing.
+use Rattle.std.specs.Prelude.{None, Option, Some}
 use mathlib.Core.Path.{◌≡◌, refl, sym, ap, ◌∙◌, subst}
 use mathlib.Core.Bool.{Bool, true, false, cond, ◌&&◌}
 use mathlib.Core.List.{List, [], ◌∷◌}
@@ -10,11 +11,11 @@ use lib.Dec.{T, eqb, leb, ltb}
 use lib.ListN.{length}
 use Rattle.records.specs.Numbers.{refusal_number}
 use Rattle.records.specs.declared.Refusal.{Refusal}
-use Rattle.records.specs.declared.Refusal.TheVariants.{Taken, UnsoundState, RoomTooSmall, ImproperTag}
+use Rattle.records.specs.declared.Refusal.TheVariants.{UnsoundState, RoomTooSmall, ImproperTag}
 use Rattle.octets.specs.Runs.{put_at}
 use Rattle.octets.proofs.Runs.{put-nil}
 use Rattle.actions.specs.Record.{records_of}
-use Rattle.rules.specs.Model.{CoordinationAction, Silent, Step, Call, Given}
+use Rattle.rules.specs.Model.{CoordinationAction, Step, Call, Given}
 use Rattle.rules.specs.Walk.{quiet}
 use Rattle.rules.specs.Calls.{call, facts, take_step, is_sound, room_for, all_proper, knows_all, refusal, refused_answer}
 use Rattle.rules.proofs.Room.{call-fits-room}
@@ -57,63 +58,63 @@ roomy c s n h = go (facts c).takes_room (rw (room_of s) (le-ltb n (56 * (s.count
 
 -- ---- refused
 
-module _ (g : Given) (s : Held) (room : List ℕ) {r : Called} (silent : (facts g.what).answer (view s) ≡ Silent) where
-  pub ends-refused : (n : Refusal) → refusal_number n ≡ refusal_of g s → 0 < refusal_number n → r ≡ replied s n Silent 0 → Ends g s r room room
-  ends-refused n h l e = unwritten g s room (ap (λ (x : Called). x.reply.actions) (sym e)) (promised-refused g s n Silent h l (ap refused_answer (sym silent)) e)
+module _ (g : Given) (s : Held) (room : List ℕ) {r : Called} (silent : (facts g.what).answer (view s) ≡ None) where
+  pub ends-refused : (n : Option Refusal) → refusal_number n ≡ refusal_of g s → 0 < refusal_number n → r ≡ replied s n None 0 → Ends g s r room room
+  ends-refused n h l e = unwritten g s room (ap (λ (x : Called). x.reply.actions) (sym e)) (promised-refused g s n None h l (ap refused_answer (sym silent)) e)
 
-  pub ends-27 : {b : Bool} → b ≡ (represents s && is_sound (view s)) → b ≡ false → r ≡ replied s UnsoundState Silent 0 → Ends g s r room room
-  ends-27 q h e = unwritten g s room (ap (λ (x : Called). x.reply.actions) (sym e)) (promised-27 g s Silent q h (ap refused_answer (sym silent)) e)
+  pub ends-27 : {b : Bool} → b ≡ (represents s && is_sound (view s)) → b ≡ false → r ≡ replied s (Some UnsoundState) None 0 → Ends g s r room room
+  ends-27 q h e = unwritten g s room (ap (λ (x : Called). x.reply.actions) (sym e)) (promised-27 g s None q h (ap refused_answer (sym silent)) e)
 
   module _ (p : Passes s) where
-    pub ends-8 : (facts g.what).takes_room ≡ true → g.room < 56 * (s.count + 2) → r ≡ replied s RoomTooSmall Silent 0 → Ends g s r room room
-    ends-8 t h e = ends-refused RoomTooSmall (refusal-8 g s p t (rw (room_of s) (lt-ltb g.room (56 * (s.count + 2)) h))) (omega arith) e
+    pub ends-8 : (facts g.what).takes_room ≡ true → g.room < 56 * (s.count + 2) → r ≡ replied s (Some RoomTooSmall) None 0 → Ends g s r room room
+    ends-8 t h e = ends-refused (Some RoomTooSmall) (refusal-8 g s p t (rw (room_of s) (lt-ltb g.room (56 * (s.count + 2)) h))) (omega arith) e
 
-    pub ends-7 : 56 * (s.count + 2) ≤ g.room → all_proper (facts g.what).tags ≡ false → r ≡ replied s ImproperTag Silent 0 → Ends g s r room room
-    ends-7 h t e = ends-refused ImproperTag (refusal-7 g s p (roomy g.what s g.room h) t) (omega arith) e
+    pub ends-7 : 56 * (s.count + 2) ≤ g.room → all_proper (facts g.what).tags ≡ false → r ≡ replied s (Some ImproperTag) None 0 → Ends g s r room room
+    ends-7 h t e = ends-refused (Some ImproperTag) (refusal-7 g s p (roomy g.what s g.room h) t) (omega arith) e
 
   -- ---- taken
 
   module _ (st : Standing s) (free : 0 ≡ refusal_of g s) where
     pub ends-taken : (t : Held) (l : List CoordinationAction) → Beyond s t → T (represents t) → take_step g.what (view s) ≡ record { state = view t; actions = l }
-        → {k : ℕ} {after : List ℕ} → k ≡ length l → after ≡ put_at room 0 (records_of l) → r ≡ replied t Taken Silent k → Ends g s r room after
+        → {k : ℕ} {after : List ℕ} → k ≡ length l → after ≡ put_at room 0 (records_of l) → r ≡ replied t None None k → Ends g s r room after
     ends-taken t l b h q j w e = (
-      promised-taken g s st free Silent (sym silent) t l b h q j e,
+      promised-taken g s st free None (sym silent) t l b h q j e,
       w ∙ ap (λ (x : List CoordinationAction). put_at room 0 (records_of x)) (sym (actions-taken g s free ∙ ap (λ (o : Step). o.actions) q)),
     )
 
-    pub ends-quiet : (t : Held) → Beyond s t → T (represents t) → take_step g.what (view s) ≡ quiet (view t) → r ≡ replied t Taken Silent 0 → Ends g s r room room
+    pub ends-quiet : (t : Held) → Beyond s t → T (represents t) → take_step g.what (view s) ≡ quiet (view t) → r ≡ replied t None None 0 → Ends g s r room room
     ends-quiet t b h q e = ends-taken t [] b h q refl (wrote_none room) e
 
-    pub ends-still : take_step g.what (view s) ≡ quiet (view s) → r ≡ replied s Taken Silent 0 → Ends g s r room room
+    pub ends-still : take_step g.what (view s) ≡ quiet (view s) → r ≡ replied s None None 0 → Ends g s r room room
     ends-still = ends-quiet s (beyond-refl s) st.good.neat
 
 -- ---- 8, 7 and 3 by one number
 
 -- the three tests, and the refusal that they give
-pub record First (g : Given) (s : Held) (b c : Bool) (n : Refusal) : Type 0 where
+pub record First (g : Given) (s : Held) (b c : Bool) (n : Option Refusal) : Type 0 where
   pub takes : (facts g.what).takes_room ≡ true
   pub proper : b ≡ all_proper (facts g.what).tags
   pub known : c ≡ knows_all (facts g.what).names (view s).participants
   pub is : n ≡ room_first g.room s.count (tag_first b c)
 
-module _ (g : Given) (s : Held) {b c : Bool} {n : Refusal} (f : First g s b c n) where
+module _ (g : Given) (s : Held) {b c : Bool} {n : Option Refusal} (f : First g s b c n) where
   abbrev short : Bool
   short = ltb g.room (56 * (s.count + 2))
 
   first-refusal : Passes s → 0 < refusal_number n → refusal_number n ≡ refusal_of g s
-  first-refusal p = subst (λ (x : Refusal). 0 < refusal_number x → refusal_number x ≡ refusal_of g s) (sym f.is) (go short b c refl f.proper f.known)
+  first-refusal p = subst (λ (x : Option Refusal). 0 < refusal_number x → refusal_number x ≡ refusal_of g s) (sym f.is) (go short b c refl f.proper f.known)
     where
       wide : short ≡ false → ((facts g.what).takes_room && ltb g.room (room_for (view s))) ≡ false
       wide e = rw (f.takes, room_of s) e
 
       go : (a b c : Bool) → short ≡ a → b ≡ all_proper (facts g.what).tags → c ≡ knows_all (facts g.what).names (view s).participants
-          → 0 < refusal_number (cond a RoomTooSmall (tag_first b c)) → refusal_number (cond a RoomTooSmall (tag_first b c)) ≡ refusal_of g s
+          → 0 < refusal_number (cond a (Some RoomTooSmall) (tag_first b c)) → refusal_number (cond a (Some RoomTooSmall) (tag_first b c)) ≡ refusal_of g s
       go true b c e q k l = refusal-8 g s p f.takes (rw (room_of s) e)
       go false false c e q k l = refusal-7 g s p (wide e) (sym q)
       go false true false e q k l = refusal-3 g s p (wide e) (sym q) (sym k)
       go false true true e q k l = absurd (omega arith)
 
-  pub ends-first : (room : List ℕ) {r : Called} → (facts g.what).answer (view s) ≡ Silent → Passes s → (refusal_number n ≡ 0 → ⊥) → r ≡ replied s n Silent 0
+  pub ends-first : (room : List ℕ) {r : Called} → (facts g.what).answer (view s) ≡ None → Passes s → (refusal_number n ≡ 0 → ⊥) → r ≡ replied s n None 0
       → Ends g s r room room
   ends-first room silent p h e = let l = above h in ends-refused g s room silent n (first-refusal p l) l e
     where
@@ -126,9 +127,9 @@ module _ (g : Given) (s : Held) {b c : Bool} {n : Refusal} (f : First g s b c n)
 
   -- one of the three
   pub first-shut : is_open g.room s.count b c ≡ false → refusal_number n ≡ 0 → ⊥
-  first-shut shut = subst (λ (x : Refusal). refusal_number x ≡ 0 → ⊥) (sym f.is) (go short (leb (56 * (s.count + 2)) g.room) b c refl refl shut)
+  first-shut shut = subst (λ (x : Option Refusal). refusal_number x ≡ 0 → ⊥) (sym f.is) (go short (leb (56 * (s.count + 2)) g.room) b c refl refl shut)
     where
-      go : (a d b c : Bool) → short ≡ a → leb (56 * (s.count + 2)) g.room ≡ d → (d && (b && c)) ≡ false → refusal_number (cond a RoomTooSmall (tag_first b c)) ≡ 0 → ⊥
+      go : (a d b c : Bool) → short ≡ a → leb (56 * (s.count + 2)) g.room ≡ d → (d && (b && c)) ≡ false → refusal_number (cond a (Some RoomTooSmall) (tag_first b c)) ≡ 0 → ⊥
       go true d b c h k q l = omega arith
       go false d false c h k q l = omega arith
       go false d true false h k q l = omega arith
@@ -141,10 +142,10 @@ module _ (g : Given) (s : Held) {b c : Bool} {n : Refusal} (f : First g s b c n)
   -- none of the three
   pub first-none : refusal_number n ≡ 0 → (56 * (s.count + 2) ≤ g.room) × (b ≡ true) × (c ≡ true)
   first-none h =
-      let w = subst (λ (x : Refusal). refusal_number x ≡ 0 → (short ≡ false) × (b ≡ true) × (c ≡ true)) (sym f.is) (go short b c) h in
+      let w = subst (λ (x : Option Refusal). refusal_number x ≡ 0 → (short ≡ false) × (b ≡ true) × (c ≡ true)) (sym f.is) (go short b c) h in
       (ltb-false g.room (56 * (s.count + 2)) w.0, w.1, w.2)
     where
-      go : (a b c : Bool) → refusal_number (cond a RoomTooSmall (tag_first b c)) ≡ 0 → (a ≡ false) × (b ≡ true) × (c ≡ true)
+      go : (a b c : Bool) → refusal_number (cond a (Some RoomTooSmall) (tag_first b c)) ≡ 0 → (a ≡ false) × (b ≡ true) × (c ≡ true)
       go true b c l = absurd (omega arith)
       go false false c l = absurd (omega arith)
       go false true false l = absurd (omega arith)

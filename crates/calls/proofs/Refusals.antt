@@ -1,5 +1,6 @@
 -- The refusals of a call on the state held, one law for each link of the chain 27, 8, 7, 3, 4, 9, and what a refused and a taken call promise. By the
 -- definitions, with each test's value put in. Assumes nothing.
+use Rattle.std.specs.Prelude.{None, Option}
 use mathlib.Core.Path.{◌≡◌, refl, ap}
 use mathlib.Core.Bool.{Bool, true, false, not, cond, ◌&&◌}
 use Prim.Native.Nat.{ℕ, ◌+◌, ◌*◌, ◌<◌}
@@ -9,8 +10,7 @@ use lib.Dec.{eqb, ltb}
 use lib.ListN.{length}
 use Rattle.records.specs.Numbers.{refusal_number}
 use Rattle.records.specs.declared.Refusal.{Refusal}
-use Rattle.records.specs.declared.Refusal.TheVariants.{Taken}
-use Rattle.rules.specs.Model.{Answer, Given}
+use Rattle.rules.specs.Model.{Given}
 use Rattle.rules.specs.Calls.{facts, own_step, take_step, is_sound, room_for, all_proper, knows_all, is_spent, refusal, refused_answer}
 use Rattle.state.specs.declared.FederateCoordinationState.{FederateCoordinationState as Held}
 use Rattle.state.specs.View.{view, put, represents}
@@ -79,7 +79,7 @@ room_of s = ap (λ n. 56 * (n + 2)) (length-rows s)
 
 -- ---- what is promised
 
-pub refused : (g : Given) (s : Held) (n : Refusal) (a : Answer) → refusal_number n ≡ refusal_of g s → 0 < refusal_number n → a ≡ refused_answer ((facts g.what).answer (view s)) → Promised g s (replied s n a 0)
+pub refused : (g : Given) (s : Held) (n : Option Refusal) (a : Option Bool) → refusal_number n ≡ refusal_of g s → 0 < refusal_number n → a ≡ refused_answer ((facts g.what).answer (view s)) → Promised g s (replied s n a 0)
 unfolding state_of actions_of answer_of
 refused g s n a e h x =
     let z : eqb (refusal_of g s) 0 ≡ false = go (refusal_of g s) (refusal_number n) e h in
@@ -95,7 +95,7 @@ refused g s n a e h x =
             not-eq m true q l = let w = eqb-true m 0 q in absurd (omega arith)
             not-eq m false q l = refl
 
-pub taken : (g : Given) (s r : Held) (a : Answer) (k : ℕ) → 0 ≡ refusal_of g s → a ≡ (facts g.what).answer (view s) → k ≡ length (take_step g.what (view s)).actions → r ≡ put s (take_step g.what (view s)).state → Promised g s (replied r Taken a k)
+pub taken : (g : Given) (s r : Held) (a : Option Bool) (k : ℕ) → 0 ≡ refusal_of g s → a ≡ (facts g.what).answer (view s) → k ≡ length (take_step g.what (view s)).actions → r ≡ put s (take_step g.what (view s)).state → Promised g s (replied r None a k)
 unfolding state_of actions_of answer_of
 taken g s r a k e x y z =
     let q : eqb (refusal_of g s) 0 ≡ true = rw (← e) refl in

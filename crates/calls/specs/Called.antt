@@ -1,10 +1,10 @@
 -- What a public call on the state held promises, in the words of the rules: refusal, answer, number of actions, the state with every cell, and the
 -- actions whose records the room holds afterwards. Assumes nothing.
-use Rattle.std.specs.Prelude.{◌≡◌, Bool, cond, ◌&&◌, List, [], ℕ, ◌+◌, ◌*◌, eqb, leb, ltb, length}
+use Rattle.std.specs.Prelude.{◌≡◌, Bool, cond, ◌&&◌, List, [], ℕ, ◌+◌, ◌*◌, eqb, leb, ltb, length, None, Option, Some}
 use Rattle.records.specs.Numbers.{refusal_number}
 use Rattle.records.specs.declared.Refusal.{Refusal}
-use Rattle.records.specs.declared.Refusal.TheVariants.{Taken, UnknownEnclave, ImproperTag, RoomTooSmall}
-use Rattle.rules.specs.Model.{CoordinationAction, Answer, Call, Given}
+use Rattle.records.specs.declared.Refusal.TheVariants.{UnknownEnclave, ImproperTag, RoomTooSmall}
+use Rattle.rules.specs.Model.{CoordinationAction, Call, Given}
 use Rattle.rules.specs.Calls.{facts, take_step, refusal, refused_answer}
 use Rattle.state.specs.declared.FederateCoordinationState.{FederateCoordinationState as Held}
 use Rattle.state.specs.View.{view, put, represents}
@@ -28,7 +28,7 @@ state_of g s = cond (is_taken_of g s) (put s (take_step g.what (view s)).state) 
 unfoldable pub actions_of : Given → Held → List CoordinationAction
 actions_of g s = cond (is_taken_of g s) (take_step g.what (view s)).actions []
 
-unfoldable pub answer_of : Given → Held → Answer
+unfoldable pub answer_of : Given → Held → Option Bool
 answer_of g s = cond (is_taken_of g s) ((facts g.what).answer (view s)) (refused_answer ((facts g.what).answer (view s)))
 
 pub record Promised (g : Given) (s : Held) (r : Called) : Type 0 where
@@ -37,16 +37,16 @@ pub record Promised (g : Given) (s : Held) (r : Called) : Type 0 where
   pub actions : r.reply.actions ≡ length (actions_of g s)
   pub state : r.state ≡ state_of g s
 
-abbrev pub replied : Held → Refusal → Answer → ℕ → Called
+abbrev pub replied : Held → Option Refusal → Option Bool → ℕ → Called
 replied s n a k = record { state = s; reply = record { refusal = n; answer = a; actions = k } }
 
 -- ---- "Calls: 27, 8, 7, 3, 4, 9", as the code tests them: 8 before what comes later, and 7 before 3
 
-abbrev pub room_first : ℕ → ℕ → Refusal → Refusal
-room_first room count later = cond (ltb room (56 * (count + 2))) RoomTooSmall later
+abbrev pub room_first : ℕ → ℕ → Option Refusal → Option Refusal
+room_first room count later = cond (ltb room (56 * (count + 2))) (Some RoomTooSmall) later
 
-abbrev pub tag_first : Bool → Bool → Refusal
-tag_first proper known = cond proper (cond known Taken UnknownEnclave) ImproperTag
+abbrev pub tag_first : Bool → Bool → Option Refusal
+tag_first proper known = cond proper (cond known None (Some UnknownEnclave)) (Some ImproperTag)
 
 -- none of the three
 abbrev pub is_open : ℕ → ℕ → Bool → Bool → Bool

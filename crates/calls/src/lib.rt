@@ -4,14 +4,14 @@
 ghost use Rattle.std.specs.Prelude.{◌≡◌, ◌≤◌};
 ghost use Rattle.calls.specs.Called.{replied, is_open, room_first, tag_first};
 
-use records::{Answer, Refusal};
+use records::Refusal;
 use state::FederateCoordinationState;
 
 #[derive(Clone, Copy)]
 pub struct Reply {
     // `Taken`, or why the call was refused.
-    pub refusal: Refusal,
-    pub answer: Answer,
+    pub refusal: Option<Refusal>,
+    pub answer: Option<bool>,
     // How many records were written, from byte 0 of the room.
     pub actions: usize,
 }
@@ -25,8 +25,8 @@ pub struct Called {
 // The state and its reply.
 pub fn with_reply(
     state: FederateCoordinationState,
-    refusal: Refusal,
-    answer: Answer,
+    refusal: Option<Refusal>,
+    answer: Option<bool>,
     actions: usize,
 ) -> Called
     ensures { result ≡ replied state refusal answer actions }
@@ -48,25 +48,25 @@ pub fn is_open(room: usize, count: usize, proper: bool, known: bool) -> bool
 }
 
 // 8 before a refusal that comes later, or before none.
-pub fn room_first(room: usize, count: usize, later: Refusal) -> Refusal
+pub fn room_first(room: usize, count: usize, later: Option<Refusal>) -> Option<Refusal>
     requires { count ≤ 32 }
     ensures { result ≡ room_first room count later }
 {
     if room < 56 * (count + 2) {
-        return Refusal::RoomTooSmall;
+        return Some(Refusal::RoomTooSmall);
     }
     later
 }
 
 // 7 before 3, or neither.
-pub fn tag_first(proper: bool, known: bool) -> Refusal
+pub fn tag_first(proper: bool, known: bool) -> Option<Refusal>
     ensures { result ≡ tag_first proper known }
 {
     if !proper {
-        return Refusal::ImproperTag;
+        return Some(Refusal::ImproperTag);
     }
     if !known {
-        return Refusal::UnknownEnclave;
+        return Some(Refusal::UnknownEnclave);
     }
-    Refusal::Taken
+    None
 }

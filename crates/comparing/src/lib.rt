@@ -2,7 +2,6 @@
 #![tactic(auto)]
 
 use calls::{Called, Reply};
-use records::Answer;
 use state::{Completion, Coordination, FederateCoordinationState, Gate};
 
 fn same_bool(a: bool, b: bool) -> bool {
@@ -168,11 +167,11 @@ pub fn same_states(a: FederateCoordinationState, b: FederateCoordinationState) -
     same_columns(a, b)
 }
 
-fn answer_number(answer: Answer) -> u8 {
+fn answer_number(answer: Option<bool>) -> u8 {
     match answer {
-        Answer::Silent => 2,
-        Answer::No => 0,
-        Answer::Yes => 1,
+        None => 2,
+        Some(false) => 0,
+        Some(true) => 1,
     }
 }
 

@@ -1,5 +1,6 @@
 -- What each return of `advance_to`, `advance_completion` and `complete_least` answers, for every state that has what they were given: the columns' reading
 -- is the participants' (Steps), so the tests on the way are the rules'. Assumes nothing.
+use Rattle.std.specs.Prelude.{None, Option, Some}
 use mathlib.Core.Path.{◌≡◌, refl, sym, ap, ◌∙◌}
 use mathlib.Core.Bool.{Bool, true, false, cond}
 use mathlib.Core.List.{List}
@@ -7,7 +8,7 @@ use Prim.Native.Nat.{ℕ, ◌+◌}
 use lib.Dec.{T, eqb}
 use lib.IntN.{ℤ}
 use Rattle.tags.specs.Tags.{is_below, lesser_of_both, is_present}
-use Rattle.rules.specs.Model.{Tag, OptionalTag, NoTag, At}
+use Rattle.rules.specs.Model.{Tag}
 use Rattle.rules.specs.Walk.{quiet, is_stopped}
 use Rattle.rules.specs.Completion.{front_of, least_completed, finish, complete_all}
 use Rattle.state.specs.declared.FederateCoordinationState.{FederateCoordinationState as Held}
@@ -41,7 +42,7 @@ module _ (ps ks : List Bool) (os : List ℕ) (ss ns : List ℤ) (ms : List ℕ) 
   abbrev Towards : Tag → Type 0
   Towards f =
       (s : Held) → T (represents s) → Has s ps ks os ss ns ms n s.coordination.phase s.grant_horizon k
-      → is_absent f ≡ false → is_stopped (view s) ≡ false → front_of (view s) ≡ At f → Advances s r
+      → is_absent f ≡ false → is_stopped (view s) ≡ false → front_of (view s) ≡ Some f → Advances s r
 
   module _ (f : Tag) (x : Bool) (lag : x ≡ is_below (optional_of k.completed_frontier) f) where
     pub towards-reached : x ≡ false → {u : Completion} → u ≡ with_probe absent k → r ≡ still_at f u → Towards f
@@ -96,16 +97,16 @@ module _ (ps ks : List Bool) (os : List ℕ) (ss ns : List ℤ) (ms : List ℕ) 
 -- ---- the least completed tag
 
 -- as the columns hold it
-abbrev least_in : List ℤ → List ℤ → List ℕ → ℕ → OptionalTag
-least_in ss ns ms n = cond (all_of (λ j. is_present (optional_of (tag_in ss ns ms (32 + j)))) 0 n) (least_from (λ j. optional_of (tag_in ss ns ms (32 + j))) 0 n) NoTag
+abbrev least_in : List ℤ → List ℤ → List ℕ → ℕ → Option Tag
+least_in ss ns ms n = cond (all_of (λ j. is_present (optional_of (tag_in ss ns ms (32 + j)))) 0 n) (least_from (λ j. optional_of (tag_in ss ns ms (32 + j))) 0 n) None
 
 least-in-kept : (ss ns : List ℤ) (ms : List ℕ) (n : ℕ) → optional_of (cell_of (least_in ss ns ms n)) ≡ least_in ss ns ms n
 least-in-kept ss ns ms n = go (all_of (λ j. is_present (optional_of (tag_in ss ns ms (32 + j)))) 0 n)
   where
-    least : OptionalTag
+    least : Option Tag
     least = least_from (λ j. optional_of (tag_in ss ns ms (32 + j))) 0 n
 
-    go : (x : Bool) → optional_of (cell_of (cond x least NoTag)) ≡ cond x least NoTag
+    go : (x : Bool) → optional_of (cell_of (cond x least None)) ≡ cond x least None
     go true = least_kept (λ j. tag_in ss ns ms (32 + j)) 0 n
     go false = refl
 

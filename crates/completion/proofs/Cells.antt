@@ -1,11 +1,12 @@
 -- The rules' tests and the pending pair on the cells that hold them: an optional tag by its cell, the pair of inputs by its two cells. By cases on what is absent. Assumes nothing.
+use Rattle.std.specs.Prelude.{None, Some}
 use mathlib.Core.Path.{◌≡◌, refl, sym, ap, ◌∙◌, subst}
 use mathlib.Core.Bool.{Bool, true, false, not, cond}
 use Prim.Native.Nat.{ℕ}
 use lib.Dec.{T}
 use Rattle.tags.specs.Tags.{◌≡ₜ◌, ◌≤ₜ◌, is_at_or_below, same_optional}
 use Rattle.rules.specs.Completion.{inputs_left, marked, widened}
-use Rattle.rules.specs.Model.{At, Inputs, NoInputs, NoTag, OptionalInputs, Tag}
+use Rattle.rules.specs.Model.{Inputs, NoInputs, OptionalInputs, Tag}
 use Rattle.state.specs.Cells.{absent, inputs_of, is_absent, is_neat, optional_of}
 use Rattle.state.proofs.Neat.{NeatCompletion}
 use Rattle.state.proofs.Rows.{neat-cell, same_tag}
@@ -19,10 +20,10 @@ either : (P : Tag → Type 0) (x : Bool) (a b : Tag) → P a → P b → P (cond
 either P true a b p q = p
 either P false a b p q = q
 
-pub present-at : (t : Tag) → is_absent t ≡ false → optional_of t ≡ At t
+pub present-at : (t : Tag) → is_absent t ≡ false → optional_of t ≡ Some t
 present-at t e = rw e refl
 
-pub same-present : (a f : Tag) → is_absent f ≡ false → same_optional (optional_of a) (At f) ≡ (a ≡ₜ f)
+pub same-present : (a f : Tag) → is_absent f ≡ false → same_optional (optional_of a) (Some f) ≡ (a ≡ₜ f)
 same-present a f p = go (is_absent a) refl
   where
     differs : is_absent a ≡ true → (x : Bool) → (a ≡ₜ f) ≡ x → x ≡ false
@@ -31,7 +32,7 @@ same-present a f p = go (is_absent a) refl
         sym e ∙ ap is_absent (same_tag a f h) ∙ p
     differs e false y = refl
 
-    go : (b : Bool) → is_absent a ≡ b → same_optional (cond b NoTag (At a)) (At f) ≡ (a ≡ₜ f)
+    go : (b : Bool) → is_absent a ≡ b → same_optional (cond b None (Some a)) (Some f) ≡ (a ≡ₜ f)
     go true e = sym (differs e (a ≡ₜ f) refl)
     go false e = refl
 
@@ -48,7 +49,7 @@ module _ (k : Completion) (f : Tag) where
   pub mark-is : is_reached k.first_input f ≡ marked (pair_of k) f
   mark-is = go (is_absent k.first_input)
     where
-      go : (b : Bool) → is_at_or_below (cond b NoTag (At k.first_input)) f ≡ marked (cond b NoInputs (Inputs k.first_input k.last_input)) f
+      go : (b : Bool) → is_at_or_below (cond b None (Some k.first_input)) f ≡ marked (cond b NoInputs (Inputs k.first_input k.last_input)) f
       go true = refl
       go false = refl
 
@@ -91,7 +92,7 @@ both k e = rw e (go (is_absent k.last_input))
     go false = tt
 
 pub neat-absent : T (is_neat absent)
-neat-absent = neat-cell NoTag tt
+neat-absent = neat-cell None tt
 
 pub neat-present : (t : Tag) → is_absent t ≡ false → T (is_neat t)
 neat-present t e = rw e tt

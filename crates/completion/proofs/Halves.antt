@@ -1,5 +1,6 @@
 -- The first halves of CompleteTag and of CompletionObserved, branch by branch: the parts that the code stores are, in every good state that has the given
 -- ones, the rules' change of the enclave's participant and of the pending pair. Assumes nothing.
+use Rattle.std.specs.Prelude.{Some}
 use mathlib.Core.Path.{◌≡◌, refl, sym, ap, ap₂, ◌∙◌}
 use mathlib.Core.Logic.{◌↔◌}
 use mathlib.Core.Bool.{Bool, true, false, cond, ◌&&◌}
@@ -7,7 +8,7 @@ use mathlib.Core.List.{List, map}
 use Prim.Native.Nat.{ℕ}
 use lib.Dec.{T, eqb}
 use Rattle.tags.specs.Tags.{is_below, is_proper}
-use Rattle.rules.specs.Model.{Tag, At, Number, OptionalInputs, Participant, State, Step}
+use Rattle.rules.specs.Model.{Tag, OptionalInputs, Participant, State, Step}
 use Rattle.rules.specs.Set.{with_completed, with_completion_observed, with_participants, with_pending_inputs}
 use Rattle.rules.specs.Walk.{at, only, quiet, is_stopped}
 use Rattle.rules.specs.Completion.{least_completed, complete_all, noted, complete_by, complete_tag_of, answers_probe, observed_of}
@@ -101,8 +102,8 @@ module _ (e : ℕ) (t : Tag) (network : Bool) (p : Parts) where
         then : Bool → Parts
         then b = (completed_with (cond b (widened_by t s.completion) s.completion) t (parts_of s i)).parts
 
-        rows : (b : Bool) → rows_of (rebuilt s i (then b) s.observation s.gate) ≡ map (at e (with_completed (At t))) (rows_of s)
-        rows b = rows-only s e i (then b) good d (with_completed (At t)) (rw here refl)
+        rows : (b : Bool) → rows_of (rebuilt s i (then b) s.observation s.gate) ≡ map (at e (with_completed (Some t))) (rows_of s)
+        rows b = rows-only s e i (then b) good d (with_completed (Some t)) (rw here refl)
 
         stored : (b : Bool) → view (rebuilt s i (then b) s.observation s.gate) ≡ noted e t b (view s)
         stored true =
@@ -165,11 +166,11 @@ module _ (e g : ℕ) (p : Parts) where
         answers : answers_probe g (view s) ≡ true
         answers = rw (probed-by s i eq ∙ asked, current-by s i eq ∙ h) refl
 
-        kept : observed_of e g (view s) ≡ quiet (only e (with_completion_observed (Number g)) (view s))
+        kept : observed_of e g (view s) ≡ quiet (only e (with_completion_observed (Some g)) (view s))
         kept = rw answers refl
 
-        rows : rows_of (rebuilt s i (observed_with g (parts_of s i)).parts s.observation s.gate) ≡ map (at e (with_completion_observed (Number g))) (rows_of s)
-        rows = rows-only s e i (observed_with g (parts_of s i)).parts good d (with_completion_observed (Number g)) refl
+        rows : rows_of (rebuilt s i (observed_with g (parts_of s i)).parts s.observation s.gate) ≡ map (at e (with_completion_observed (Some g))) (rows_of s)
+        rows = rows-only s e i (observed_with g (parts_of s i)).parts good d (with_completion_observed (Some g)) refl
 
 pub observed-neat : (g : ℕ) (p : Parts) → T (neat_parts p) → T (neat_parts (observed_with g p).parts)
 observed-neat g p h =

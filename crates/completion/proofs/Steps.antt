@@ -1,5 +1,6 @@
 -- The completion step of a whole state, branch by branch: under the rules' tests it is the answer that the code makes of the cells (Cells), since a change
 -- of the completion's cells is the rules' change of the state; and the rules' tests are those of the columns. Assumes nothing.
+use Rattle.std.specs.Prelude.{None, Option, Some}
 use mathlib.Core.Path.{◌≡◌, refl, sym, ap₂, ◌∙◌}
 use mathlib.Core.Bool.{Bool, true, false, cond}
 use mathlib.Core.List.{List, [], ◌∷◌}
@@ -7,7 +8,7 @@ use Prim.Native.Nat.{ℕ, ◌+◌, ◌^◌}
 use lib.Dec.{T, leb}
 use lib.IntN.{ℤ}
 use Rattle.tags.specs.Tags.{◌≡ₜ◌, lesser_of_both, same_optional}
-use Rattle.rules.specs.Model.{Tag, OptionalTag, NoTag, At, OptionalInputs, State}
+use Rattle.rules.specs.Model.{Tag, OptionalInputs, State}
 use Rattle.rules.specs.Set.{with_completed_frontier, with_pending_inputs}
 use Rattle.rules.specs.Walk.{any, quiet, is_stopped}
 use Rattle.rules.specs.Completion.{inputs_left, finish, front_of, lags, blocks, is_held, next_generation, asks, probe_for, has_answered, all_answered, advance_to, advance_of}
@@ -31,9 +32,9 @@ use Rattle.completion.proofs.Cells.{present-at, same-present, Paired, pair_of, m
 -- ---- f becomes the frontier
 
 view-finished : (s : Held) (k : Completion) (f : Tag) → is_absent f ≡ false → Paired k
-    → view (with_completion (finished_at f k) s) ≡ with_completed_frontier (At f) (with_pending_inputs (inputs_left (pair_of k) f) (view (with_completion k s)))
+    → view (with_completion (finished_at f k) s) ≡ with_completed_frontier (Some f) (with_pending_inputs (inputs_left (pair_of k) f) (view (with_completion k s)))
 view-finished s k f p q =
-    ap₂ (λ (a : OptionalTag) (b : OptionalInputs). with_completed_frontier a (with_pending_inputs b (view (with_completion k s)))) (present-at f p) (finished-pair k f q)
+    ap₂ (λ (a : Option Tag) (b : OptionalInputs). with_completed_frontier a (with_pending_inputs b (view (with_completion k s)))) (present-at f p) (finished-pair k f q)
 
 pub finish-is : (s : Held) (k : Completion) (f : Tag) → is_absent f ≡ false → Paired k
     → finish f (view (with_completion k s))
@@ -56,12 +57,12 @@ module _ (s : Held) (whole : T (represents s)) where
   unfolding advance_of
   still-stopped f p = still f (rw p refl) (rw p refl)
 
-  pub still-missing : (f : Tag) → is_stopped (view s) ≡ false → front_of (view s) ≡ NoTag → Advances s (still_at f s.completion)
+  pub still-missing : (f : Tag) → is_stopped (view s) ≡ false → front_of (view s) ≡ None → Advances s (still_at f s.completion)
   unfolding advance_of advance_to
   still-missing f p q = still f (rw (p, q) refl) (rw (p, q) refl)
 
   -- towards f
-  module _ (f : Tag) (present : is_absent f ≡ false) (runs : is_stopped (view s) ≡ false) (front : front_of (view s) ≡ At f) where
+  module _ (f : Tag) (present : is_absent f ≡ false) (runs : is_stopped (view s) ≡ false) (front : front_of (view s) ≡ Some f) where
     pub to_held : is_held f (view s) ≡ true → Advances s (still_at f (with_probe absent s.completion))
     unfolding advance_of advance_to
     to_held h = record {
@@ -72,7 +73,7 @@ module _ (s : Held) (whole : T (represents s)) where
 
     module _ (free : is_held f (view s) ≡ false) where
       module _ (asked : (s.completion.completion_probe ≡ₜ f) ≡ true) where
-        same : same_optional (view s).completion_probe (At f) ≡ true
+        same : same_optional (view s).completion_probe (Some f) ≡ true
         same = same-present s.completion.completion_probe f present ∙ asked
 
         pub to-waiting : all_answered f (view s) ≡ false → Advances s (still_at f s.completion)
@@ -97,7 +98,7 @@ module _ (s : Held) (whole : T (represents s)) where
           next : ℕ
           next = next_generation s.completion.completion_generation
 
-          other : same_optional (view s).completion_probe (At f) ≡ false
+          other : same_optional (view s).completion_probe (Some f) ≡ false
           other = same-present s.completion.completion_probe f present ∙ asked
 
           go : (x : Bool) → leb (2 ^ 64) next ≡ x → Advances s (cond x (spent_at f s.completion) (probes_with next f s.completion))

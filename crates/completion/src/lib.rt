@@ -2,10 +2,9 @@
 // complete, completion, advance_completion). The columns are lent and small parts go in and out by value. 9 is answered as `spent`.
 #![tactic(auto)]
 
-ghost use Rattle.std.specs.Prelude.{◌≡◌, false, cond, ℕ, ◌≤◌, T};
+ghost use Rattle.std.specs.Prelude.{◌≡◌, false, cond, ℕ, ◌≤◌, T, Some};
 ghost use Rattle.tags.specs.Tags.{is_proper};
 ghost use Rattle.rules.specs.Completion.{complete_tag_of, observed_of, front_of};
-ghost use Rattle.rules.specs.Model.{At};
 ghost use Rattle.rules.specs.Walk.{is_stopped};
 ghost use Rattle.state.specs.declared.FederateCoordinationState.{FederateCoordinationState as Held};
 ghost use Rattle.state.specs.Cells.{is_absent};
@@ -274,7 +273,7 @@ fn advance_to<'a>(
     completion: Completion,
 ) -> Advanced
     requires { count ≤ 32 }
-    ensures { (s : Held) → T (represents s) → Has s published.now acknowledged.now completion_observed.now seconds.now nanoseconds.now microsteps.now count s.coordination.phase s.grant_horizon completion → is_absent frontier ≡ false → is_stopped (view s) ≡ false → front_of (view s) ≡ At frontier → Advances s result }
+    ensures { (s : Held) → T (represents s) → Has s published.now acknowledged.now completion_observed.now seconds.now nanoseconds.now microsteps.now count s.coordination.phase s.grant_horizon completion → is_absent frontier ≡ false → is_stopped (view s) ≡ false → front_of (view s) ≡ Some frontier → Advances s result }
 {
     let reached = completion.completed_frontier;
     if !table::lags(reached, frontier) {

@@ -1,5 +1,6 @@
 -- The sum of two proper pairs by carry, borrow and sign repair: each keeps the total, and what comes out is proper, so it is `proper_pair` of the sum
 -- (Pair.antt); where a step would leave the range, so does the sum. Assumes nothing.
+use Rattle.std.specs.Prelude.{None, Some}
 use mathlib.Core.Path.{◌≡◌, refl, sym, ap, ◌∙◌}
 use mathlib.Core.Logic.{◌⊎◌, inl, inr}
 use mathlib.Core.Bool.{Bool, true, false}
@@ -12,7 +13,7 @@ use mir.Val.{SFits, hbits}
 use Rattle.tags.specs.Branches.{yes, no}
 use Rattle.tags.specs.Tags.{within_second, proper_time, is_proper}
 use Rattle.tags.specs.declared.Tag.{Tag}
-use Rattle.records.specs.declared.Refusal.TheVariants.{Taken, DelayOutOfRange}
+use Rattle.records.specs.declared.Refusal.TheVariants.{DelayOutOfRange}
 use Rattle.delay.specs.declared.Duration.{Duration}
 use Rattle.delay.specs.Delay.{total_nanoseconds, offset_of, proper_pair, leaves_range, answer, moved_of}
 use Rattle.delay.proofs.Whole.{above, below, Less, less-self, Side, over, under, side}
@@ -139,27 +140,27 @@ module _ (t : Duration) (w : within_second t.nanoseconds ≡ true) where
 
 -- ---- the answer: a tag whose seconds fit is in range; a whole second past the range it is out
 pub moved-taken : (tag moved : Tag) (offset : Duration) (z : ℤ) → SFits w64 offset.seconds → offset ≡ proper_pair z
-    → moved ≡ record { seconds = offset.seconds; nanoseconds = offset.nanoseconds; microstep = 0 } → answer Taken moved ≡ moved_of tag z
+    → moved ≡ record { seconds = offset.seconds; nanoseconds = offset.nanoseconds; microstep = 0 } → answer None moved ≡ moved_of tag z
 unfolding moved_of
 moved-taken tag moved offset z f e k =
     let b = fits-only-if offset.seconds f in
     let s = offset.seconds in
     let g : leaves_range s ≡ false = stays-if s (above s) (below s) (less-self s) (omega (arith, b.0)) (omega (arith, b.1)) in
     no _ (sym (ap (λ d. leaves_range d.seconds) e) ∙ g)
-    (ap (answer Taken) k ∙ ap (λ d. answer Taken (record { seconds = d.seconds; nanoseconds = d.nanoseconds; microstep = 0 })) e)
+    (ap (answer None) k ∙ ap (λ d. answer None (record { seconds = d.seconds; nanoseconds = d.nanoseconds; microstep = 0 })) e)
 
 module _ (tag : Tag) (z : ℤ) (p q : ℕ) (e : Less z p q) where
-  out : leaves_range (proper_pair z).seconds ≡ true → answer DelayOutOfRange tag ≡ moved_of tag z
+  out : leaves_range (proper_pair z).seconds ≡ true → answer (Some DelayOutOfRange) tag ≡ moved_of tag z
   unfolding moved_of
   out h = yes _ h refl
 
-  pub out-above : q + 2 ^ 63 * 1_000_000_000 ≤ p → answer DelayOutOfRange tag ≡ moved_of tag z
+  pub out-above : q + 2 ^ 63 * 1_000_000_000 ≤ p → answer (Some DelayOutOfRange) tag ≡ moved_of tag z
   out-above h =
       let x = quot_z z (pos 1_000_000_000) in
       let d = below_none z p q e (omega arith) in
       out (leaves-above x (above x) (below x) (less-self x) (omega (arith, quot_above z, quot_below z)))
 
-  pub out_below : p + (2 ^ 63 + 1) * 1_000_000_000 ≤ q → answer DelayOutOfRange tag ≡ moved_of tag z
+  pub out_below : p + (2 ^ 63 + 1) * 1_000_000_000 ≤ q → answer (Some DelayOutOfRange) tag ≡ moved_of tag z
   out_below h =
       let x = quot_z z (pos 1_000_000_000) in
       let d = above-none z p q e (omega arith) in
@@ -220,14 +221,14 @@ module _ (t : Duration) (w : (le_z (negsuc 1_999_999_997) t.nanoseconds ≡ true
   borrow-moved tag u k = ap (moved_of tag) (ap total_nanoseconds k ∙ borrow-exact t)
 
   pub carry-out : (tag : Tag) → lt_z (pos 999_999_999) t.nanoseconds ≡ true → lt_z t.seconds (pos (2 ^ 63 - 1)) ≡ false
-      → answer DelayOutOfRange tag ≡ moved_of tag (total_nanoseconds t)
+      → answer (Some DelayOutOfRange) tag ≡ moved_of tag (total_nanoseconds t)
   carry-out tag e g =
       let x = lt-only-if (pos 999_999_999) t.nanoseconds e in
       let y = ge-only-if t.seconds (pos (2 ^ 63 - 1)) g in
       out-above tag (total_nanoseconds t) _ _ (total-less t) (omega arith)
 
   pub borrow-out : (tag : Tag) → lt_z t.nanoseconds (negsuc 999_999_998) ≡ true → lt_z (negsuc (2 ^ 63 - 1)) t.seconds ≡ false
-      → answer DelayOutOfRange tag ≡ moved_of tag (total_nanoseconds t)
+      → answer (Some DelayOutOfRange) tag ≡ moved_of tag (total_nanoseconds t)
   borrow-out tag e g =
       let x = lt-only-if t.nanoseconds (negsuc 999_999_998) e in
       let y = ge-only-if (negsuc (2 ^ 63 - 1)) t.seconds g in
@@ -284,7 +285,7 @@ module _ (a d : Duration) (p : Proper a) (q : Proper d) where
 
   -- seconds out of range have one sign, so no nanoseconds bring the sum back
   sum-out : (tag : Tag) → SFits w64 a.seconds → SFits w64 d.seconds → leaves_range (a.seconds +ℤ d.seconds) ≡ true
-      → answer DelayOutOfRange tag ≡ moved_of tag (total_nanoseconds a +ℤ total_nanoseconds d)
+      → answer (Some DelayOutOfRange) tag ≡ moved_of tag (total_nanoseconds a +ℤ total_nanoseconds d)
   sum-out tag f g h = go (leaves-only-if (a.seconds +ℤ d.seconds) h)
     where
       s : Less (a.seconds +ℤ d.seconds) (above a.seconds + above d.seconds) (below a.seconds + below d.seconds)
@@ -297,7 +298,7 @@ module _ (a d : Duration) (p : Proper a) (q : Proper d) where
 
       go : ((2 ^ 63 ≤ above (a.seconds +ℤ d.seconds)) × (below (a.seconds +ℤ d.seconds) ≡ 0))
           ⊎ ((2 ^ 63 < below (a.seconds +ℤ d.seconds)) × (above (a.seconds +ℤ d.seconds) ≡ 0))
-          → answer DelayOutOfRange tag ≡ moved_of tag (total_nanoseconds a +ℤ total_nanoseconds d)
+          → answer (Some DelayOutOfRange) tag ≡ moved_of tag (total_nanoseconds a +ℤ total_nanoseconds d)
       go (inl k) =
           let x = (fits-only-if a.seconds f).0 in
           let y = (fits-only-if d.seconds g).0 in
@@ -334,7 +335,7 @@ module _ (tag : Tag) (start offset : Duration) (e : start ≡ offset_of tag) (p 
       (ap total_nanoseconds k ∙ sum-exact start offset ∙ ap (λ d. total_nanoseconds d +ℤ total_nanoseconds offset) e)
 
   pub add-out : SFits w64 start.seconds → SFits w64 offset.seconds → leaves_range (start.seconds +ℤ offset.seconds) ≡ true
-      → answer DelayOutOfRange tag ≡ moved_of tag (total_nanoseconds (offset_of tag) +ℤ total_nanoseconds offset)
+      → answer (Some DelayOutOfRange) tag ≡ moved_of tag (total_nanoseconds (offset_of tag) +ℤ total_nanoseconds offset)
   add-out f g h =
       sum-out start offset start-proper offset-proper tag f g h
       ∙ ap (λ d. moved_of tag (total_nanoseconds d +ℤ total_nanoseconds offset)) e

@@ -2,7 +2,7 @@
 // Refuses with 7 what is not proper and with 10 what leaves the range, and then returns its tag.
 #![tactic(auto)]
 
-ghost use Rattle.std.specs.Prelude.{◌≡◌, true, pos, negsuc, ◌+ℤ◌, ◌-ℤ◌};
+ghost use Rattle.std.specs.Prelude.{◌≡◌, true, pos, negsuc, ◌+ℤ◌, ◌-ℤ◌, Some};
 ghost use Rattle.std.specs.Int.Signed.{lt_z, le_z};
 ghost use Rattle.std.specs.Int.{w32, w64};
 ghost use Rattle.std.proofs.Common.{SFits};
@@ -25,7 +25,7 @@ pub struct Duration {
 // The answer of `delay`: the delayed tag, or the refusal and the tag as it was.
 #[derive(Clone, Copy)]
 pub struct Delayed {
-    pub refusal: Refusal,
+    pub refusal: Option<Refusal>,
     pub tag: Tag,
 }
 
@@ -68,10 +68,10 @@ fn offset_of(tag: Tag) -> Duration
 }
 
 fn out_of_range(tag: Tag) -> Delayed
-    ensures { result ≡ answer DelayOutOfRange tag }
+    ensures { result ≡ answer (Some DelayOutOfRange) tag }
 {
     Delayed {
-        refusal: Refusal::DelayOutOfRange,
+        refusal: Some(Refusal::DelayOutOfRange),
         tag,
     }
 }
@@ -187,7 +187,7 @@ fn move_to(tag: Tag, sum: Duration) -> Delayed
     let offset = repair_signs(sum);
     let moved = at_offset(tag, offset);
     Delayed {
-        refusal: Refusal::Taken,
+        refusal: None,
         tag: moved,
     }
 }
@@ -230,7 +230,7 @@ fn next_microstep(tag: Tag) -> Delayed
         let mut stepped = tag;
         stepped.microstep = tag.microstep + 1;
         return Delayed {
-            refusal: Refusal::Taken,
+            refusal: None,
             tag: stepped,
         };
     }
@@ -250,7 +250,7 @@ pub fn delay(tag: Tag, offset: Duration) -> Delayed
         }
     }
     Delayed {
-        refusal: Refusal::ImproperTag,
+        refusal: Some(Refusal::ImproperTag),
         tag,
     }
 }

@@ -1,5 +1,6 @@
 -- What `participant_stopped` and `fail` decide is their rule: stopped, nothing; running, the parts of a halt, with every participant as it was.
 -- Assumes nothing.
+use Rattle.std.specs.Prelude.{None, Option, Some}
 use mathlib.Core.Path.{◌≡◌, refl, sym, ap, ap₂, ◌∙◌}
 use mathlib.Core.Bool.{Bool}
 use mathlib.Core.List.{List, [], ◌∷◌}
@@ -7,7 +8,7 @@ use Prim.Native.Nat.{ℕ}
 use native.Mathlib.Omega.{arith}
 use lib.Dec.{T, eqb}
 use borrow.Author.Tests.{ne_eqb}
-use Rattle.rules.specs.Model.{Abort, Enclave, NoEnclave, OptionalEnclave, Participant, Stop}
+use Rattle.rules.specs.Model.{Abort, Participant, Stop}
 use Rattle.rules.specs.Set.{with_first_failure, with_participants}
 use Rattle.rules.specs.Walk.{emit}
 use Rattle.rules.specs.Stop.{fail_of, stop_of}
@@ -30,12 +31,12 @@ halting p c b n = record { row = p.row; coordination = c; completion = p.complet
 abbrev stopping : Parts → Decided
 stopping p = saying 10 (halting p (without_pending 6 p.coordination) p.failed p.first_failure)
 
-abbrev failing : OptionalEnclave → Parts → Decided
+abbrev failing : Option ℕ → Parts → Decided
 failing m p = saying 11 (halting p (without_pending 6 p.coordination) (is_named m) (enclave_in m))
 
-enclave-back : (m : OptionalEnclave) → enclave_if (is_named m) (enclave_in m) ≡ m
-enclave-back NoEnclave = refl
-enclave-back (Enclave e) = refl
+enclave-back : (m : Option ℕ) → enclave_if (is_named m) (enclave_in m) ≡ m
+enclave-back None = refl
+enclave-back (Some e) = refl
 
 -- ---- in a state that has the parts
 
@@ -51,29 +52,29 @@ module _ (e : ℕ) (s : Held) (i : ℕ) (g : Good s) (d : Seated s e i) where
       (ap (λ (ps : List Participant). emit (Stop ∷ []) (with_participants ps (view (halfway s i (stopping (parts_of s i))))))
       (sym (rows-kept s e i (stopping (parts_of s i)).parts g d refl)))
 
-  fail-nothing : (m : OptionalEnclave) → s.coordination.phase ≡ 6 → Goes (fail_of m) e (saying 0) s i
+  fail-nothing : (m : Option ℕ) → s.coordination.phase ≡ 6 → Goes (fail_of m) e (saying 0) s i
   unfolding fail_of
   fail-nothing m h = goes-nothing (fail_of m) e s i g d (rw (stopped-is s g.neat ∙ ap (λ n. eqb n 6) h) refl)
 
-  fail-step : (m : OptionalEnclave) → (s.coordination.phase ≡ 6 → ⊥) → Goes (fail_of m) e (failing m) s i
+  fail-step : (m : Option ℕ) → (s.coordination.phase ≡ 6 → ⊥) → Goes (fail_of m) e (failing m) s i
   unfolding fail_of conclusion
   fail-step m h =
       let t = halfway s i (failing m (parts_of s i)) in
       rw (stopped-is s g.neat ∙ ne_eqb s.coordination.phase 6 h)
-      (ap₂ (λ (ps : List Participant) (f : OptionalEnclave). emit (Abort ∷ []) (with_first_failure f (with_participants ps (view t))))
+      (ap₂ (λ (ps : List Participant) (f : Option ℕ). emit (Abort ∷ []) (with_first_failure f (with_participants ps (view t))))
       (sym (rows-kept s e i (failing m (parts_of s i)).parts g d refl)) (sym (enclave-back m)))
 
 -- ---- of the parts
 
-neat-named : (m : OptionalEnclave) → T (is_zero_unless (is_named m) (enclave_in m))
-neat-named NoEnclave = tt
-neat-named (Enclave e) = tt
+neat-named : (m : Option ℕ) → T (is_zero_unless (is_named m) (enclave_in m))
+neat-named None = tt
+neat-named (Some e) = tt
 
 module _ (p : Parts) (h : p.coordination.phase ≡ 6) (e : ℕ) where
   pub stop-stopped : Decides stop_of e p (saying 0 p)
   stop-stopped = decides-by stop_of e (λ z. z.coordination.phase ≡ 6) (saying 0) (stop-nothing e) p h
 
-  pub fail-stopped : (m : OptionalEnclave) → Decides (fail_of m) e p (saying 0 p)
+  pub fail-stopped : (m : Option ℕ) → Decides (fail_of m) e p (saying 0 p)
   fail-stopped m = decides-by (fail_of m) e (λ z. z.coordination.phase ≡ 6) (saying 0) (λ s i g d. fail-nothing e s i g d m) p h
 
 module _ (p : Parts) (c : Coordination) (u : c ≡ without_pending 6 p.coordination) where
@@ -86,11 +87,11 @@ module _ (p : Parts) (c : Coordination) (u : c ≡ without_pending 6 p.coordinat
       let halts = neat-without-pending p.coordination 6 (omega arith) v.coordination in
       rw u (parts_whole (stopping p).parts (record { row = v.row; coordination = halts; completion = v.completion; failure = v.failure }))
 
-  pub fail-running : (m : OptionalEnclave) → (p.coordination.phase ≡ 6 → ⊥) → (e : ℕ) → Decides (fail_of m) e p (saying 11 (halting p c (is_named m) (enclave_in m)))
+  pub fail-running : (m : Option ℕ) → (p.coordination.phase ≡ 6 → ⊥) → (e : ℕ) → Decides (fail_of m) e p (saying 11 (halting p c (is_named m) (enclave_in m)))
   fail-running m h e =
       rw u (decides-by (fail_of m) e (λ z. z.coordination.phase ≡ 6 → ⊥) (failing m) (λ s i g d. fail-step e s i g d m) p h)
 
-  pub neat-failing : (m : OptionalEnclave) → T (neat_parts p) → T (neat_parts (halting p c (is_named m) (enclave_in m)))
+  pub neat-failing : (m : Option ℕ) → T (neat_parts p) → T (neat_parts (halting p c (is_named m) (enclave_in m)))
   neat-failing m h =
       let v = parts-of p h in
       let halts = neat-without-pending p.coordination 6 (omega arith) v.coordination in

@@ -1,10 +1,10 @@
 -- Message dispatch (document 01, "message dispatch, choosing by kind number"): the call that a scheduler message is, its flat form with the kind number,
 -- and what the two halves of a message's own rule promise. Assumes nothing.
-use Rattle.std.specs.Prelude.{◌≡◌, Bool, false, ◌||◌, List, [], ◌∷◌, ℕ, T, eqb, ℤ}
+use Rattle.std.specs.Prelude.{◌≡◌, Bool, false, ◌||◌, List, [], ◌∷◌, ℕ, T, eqb, ℤ, None, Option, Some}
 use Rattle.records.specs.Numbers.{message_number}
 use Rattle.records.specs.declared.SchedulerMessage.{SchedulerMessage}
 use Rattle.records.specs.declared.SchedulerMessage.TheVariants as message
-use Rattle.rules.specs.Model.{Tag, OptionalTag, NoTag, At, OptionalEnclave, NoEnclave, Enclave, CoordinationAction, Call, active, publish, complete, observed, stopped, failed}
+use Rattle.rules.specs.Model.{Tag, CoordinationAction, Call, active, publish, complete, observed, stopped, failed}
 use Rattle.state.specs.declared.FederateCoordinationState.{FederateCoordinationState as Held}
 use Rattle.state.specs.declared.Coordination.{Coordination}
 use Rattle.state.specs.declared.Completion.{Completion}
@@ -28,26 +28,26 @@ call_of (message.ParticipantStopped e) = stopped e
 call_of (message.Failed e) = failed e
 
 -- the enclave that a message names, if any
-abbrev pub enclave_of : SchedulerMessage → OptionalEnclave
-enclave_of (message.Active e) = Enclave e
-enclave_of (message.Publish e c) = Enclave e
-enclave_of (message.CompleteTag e t n) = Enclave e
-enclave_of (message.CompletionObserved e g) = Enclave e
-enclave_of (message.ParticipantStopped e) = Enclave e
+abbrev pub enclave_of : SchedulerMessage → Option ℕ
+enclave_of (message.Active e) = Some e
+enclave_of (message.Publish e c) = Some e
+enclave_of (message.CompleteTag e t n) = Some e
+enclave_of (message.CompletionObserved e g) = Some e
+enclave_of (message.ParticipantStopped e) = Some e
 enclave_of (message.Failed e) = e
 
 -- e is the enclave that is named, or nobody is
-abbrev pub Names : OptionalEnclave → ℕ → Type 0
-Names NoEnclave e = Unit {0}
-Names (Enclave x) e = x ≡ e
+abbrev pub Names : Option ℕ → ℕ → Type 0
+Names None e = Unit {0}
+Names (Some x) e = x ≡ e
 
-abbrev pub tag_of : SchedulerMessage → OptionalTag
-tag_of (message.Active e) = NoTag
+abbrev pub tag_of : SchedulerMessage → Option Tag
+tag_of (message.Active e) = None
 tag_of (message.Publish e c) = c
-tag_of (message.CompleteTag e t n) = At t
-tag_of (message.CompletionObserved e g) = NoTag
-tag_of (message.ParticipantStopped e) = NoTag
-tag_of (message.Failed e) = NoTag
+tag_of (message.CompleteTag e t n) = Some t
+tag_of (message.CompletionObserved e g) = None
+tag_of (message.ParticipantStopped e) = None
+tag_of (message.Failed e) = None
 
 abbrev pub network_of : SchedulerMessage → Bool
 network_of (message.Active e) = false

@@ -2,9 +2,8 @@
 // in two halves. Nothing is refused here.
 #![tactic(auto)]
 
-ghost use Rattle.std.specs.Prelude.{◌≡◌, false, not, ℕ, ◌≤◌, T};
+ghost use Rattle.std.specs.Prelude.{◌≡◌, false, not, ℕ, ◌≤◌, T, None, Some};
 ghost use Rattle.records.specs.declared.SchedulerMessage.{SchedulerMessage};
-ghost use Rattle.rules.specs.Model.{NoTag, Enclave};
 ghost use Rattle.rules.specs.Stop.{stop_of, fail_of};
 ghost use Rattle.rules.specs.Calls.{facts, all_proper, own_step};
 ghost use Rattle.state.specs.declared.FederateCoordinationState.{FederateCoordinationState as Held};
@@ -15,16 +14,16 @@ ghost use Rattle.dispatch.specs.Ways.{after_publication, after_completion};
 
 use completion::Least;
 use publication::Announced;
-use records::{EnclaveIndex, OptionalEnclave, SchedulerMessage};
+use records::{EnclaveIndex, SchedulerMessage};
 use state::{Completion, Coordination, Decided, Next, Parts};
-use tags::{OptionalTag, Tag};
+use tags::Tag;
 
 // A scheduler message as its kind number and what the kinds carry: absent, no or 0 where a kind carries none.
 #[derive(Clone, Copy)]
 pub struct Flat {
     pub kind: u8,
-    pub enclave: OptionalEnclave,
-    pub tag: OptionalTag,
+    pub enclave: Option<u32>,
+    pub tag: Option<Tag>,
     pub network_input: bool,
     pub generation: u64,
 }
@@ -51,25 +50,25 @@ pub struct Concluded {
 }
 
 // A message that carries no more than the enclave that it names, if any.
-fn bare(kind: u8, enclave: OptionalEnclave) -> Flat
-    ensures { result ≡ record { kind = kind; enclave = enclave; tag = NoTag; network_input = false; generation = 0 } }
+fn bare(kind: u8, enclave: Option<u32>) -> Flat
+    ensures { result ≡ record { kind = kind; enclave = enclave; tag = None; network_input = false; generation = 0 } }
 {
     Flat {
         kind,
         enclave,
-        tag: OptionalTag::NoTag,
+        tag: None,
         network_input: false,
         generation: 0,
     }
 }
 
 // A message with a tag that may be absent.
-fn tagged(kind: u8, enclave: EnclaveIndex, tag: OptionalTag, network_input: bool) -> Flat
-    ensures { result ≡ record { kind = kind; enclave = Enclave enclave; tag = tag; network_input = network_input; generation = 0 } }
+fn tagged(kind: u8, enclave: EnclaveIndex, tag: Option<Tag>, network_input: bool) -> Flat
+    ensures { result ≡ record { kind = kind; enclave = Some enclave; tag = tag; network_input = network_input; generation = 0 } }
 {
     Flat {
         kind,
-        enclave: OptionalEnclave::Enclave(enclave),
+        enclave: Some(enclave),
         tag,
         network_input,
         generation: 0,
@@ -81,7 +80,7 @@ pub fn flat_of(message: SchedulerMessage) -> Flat
     ensures { result ≡ flat_of message }
 {
     match message {
-        SchedulerMessage::Active { enclave } => bare(1, OptionalEnclave::Enclave(enclave)),
+        SchedulerMessage::Active { enclave } => bare(1, Some(enclave)),
         SchedulerMessage::Publish {
             enclave,
             next_event,
@@ -90,20 +89,20 @@ pub fn flat_of(message: SchedulerMessage) -> Flat
             enclave,
             tag,
             network_input,
-        } => tagged(3, enclave, OptionalTag::At(tag), network_input),
+        } => tagged(3, enclave, Some(tag), network_input),
         SchedulerMessage::CompletionObserved {
             enclave,
             generation,
         } => Flat {
             kind: 4,
-            enclave: OptionalEnclave::Enclave(enclave),
-            tag: OptionalTag::NoTag,
+            enclave: Some(enclave),
+            tag: None,
             network_input: false,
             generation,
         },
         SchedulerMessage::ParticipantStopped { enclave } => bare(
             5,
-            OptionalEnclave::Enclave(enclave),
+            Some(enclave),
         ),
         SchedulerMessage::Failed { enclave } => bare(6, enclave),
     }
@@ -124,7 +123,7 @@ pub fn participant_stopped(parts: Parts) -> Decided
 }
 
 // Failed.
-pub fn fail(parts: Parts, enclave: OptionalEnclave) -> Decided
+pub fn fail(parts: Parts, enclave: Option<u32>) -> Decided
     ensures step { (e : ℕ) → Decides (fail_of enclave) e parts result }
     ensures neat { T (neat_parts parts) → T (neat_parts result.parts) }
 {
@@ -135,12 +134,12 @@ pub fn fail(parts: Parts, enclave: OptionalEnclave) -> Decided
     let mut next = parts;
     next.coordination = state::without_pending(c, 6);
     match enclave {
-        OptionalEnclave::NoEnclave => {
+        None => {
             next.failed = false;
             next.first_failure = 0;
             publication::says(next, 11)
         }
-        OptionalEnclave::Enclave(index) => {
+        Some(index) => {
             next.failed = true;
             next.first_failure = index;
             publication::says(next, 11)

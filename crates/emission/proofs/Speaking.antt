@@ -1,4 +1,6 @@
 -- What a scheduler call says, as records added one after the other: the announcement is Publish, then Resume and Probe by their kinds. Assumes nothing.
+use Rattle.std.specs.Prelude.{Option}
+use Rattle.tags.specs.declared.Tag.{Tag}
 use mathlib.Core.Path.{◌≡◌, refl}
 use mathlib.Core.Bool.{Bool, true, false, cond}
 use mathlib.Core.List.{List, [], ◌∷◌}
@@ -6,7 +8,7 @@ use Prim.Native.Nat.{ℕ, ◌*◌}
 use lib.Dec.{eqb}
 use Rattle.octets.specs.Runs.{written}
 use Rattle.actions.specs.Record.{record_of}
-use Rattle.rules.specs.Model.{OptionalTag, Publish, Resume, Probe}
+use Rattle.rules.specs.Model.{Publish, Resume, Probe}
 use Rattle.state.specs.declared.Coordination.{Coordination}
 use Rattle.state.specs.Cells.{optional_of}
 use Rattle.state.specs.Decides.{said_of}
@@ -22,7 +24,7 @@ said-probe : (b : Bool) (e r : ℕ) → said_of (cond b 6 0) e r ≡ cond b (Pro
 said-probe true e r = refl
 said-probe false e r = refl
 
-pub announced : (c : Coordination) (resumes probing : Bool) (e k l : ℕ) (n h : OptionalTag) (room room₁ room₂ room₃ : List ℕ) (n₁ n₂ n₃ : ℕ)
+pub announced : (c : Coordination) (resumes probing : Bool) (e k l : ℕ) (n h : Option Tag) (room room₁ room₂ room₃ : List ℕ) (n₁ n₂ n₃ : ℕ)
     → n ≡ optional_of c.pending_next_event → h ≡ optional_of c.pending_grant_horizon → k ≡ cond resumes 9 0 → probing ≡ eqb c.phase 1 → l ≡ cond probing 6 0
     → room₁ ≡ written room (56 * 0) (record_of (Publish (record { revision = c.pending_revision; next_event = n; grant_horizon = h })))
     → Adds (said_of k e c.revision) room₁ n₁ room₂ n₂ → Adds (said_of l e c.revision) room₂ n₂ room₃ n₃ → n₁ ≡ 1

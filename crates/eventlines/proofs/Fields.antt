@@ -1,7 +1,7 @@
 -- The fields of a line from a place on: none at its end, and else the next one and those from where that one ends on. Assumes nothing.
+use Rattle.std.specs.Prelude.{None, Some}
 use mathlib.Core.Path.{◌≡◌, refl, sym, ap, ◌∙◌}
 use mathlib.Core.List.{List, [], ◌∷◌}
-use mathlib.Core.Option.{none}
 use Prim.Native.Nat.{ℕ, ◌+◌, ◌-◌, ◌<◌, ◌≤◌}
 use native.Mathlib.Omega.{arith}
 use lib.ListN.{length, take, drop, length-drop}
@@ -47,8 +47,8 @@ fields-next line at end h found =
 
 -- no event has a fourth field
 pub fields-four : (k : ℕ) (a b line : List ℕ) (at end : ℕ) → at < length line → end ≡ at + 1 + until space (drop (at + 1) line) → end < length line
-    → none ≡ by_fields k (a ∷ b ∷ fields_from at line)
+    → None ≡ by_fields k (a ∷ b ∷ fields_from at line)
 fields-four k a b line at end h found g =
     let c = take (end - (at + 1)) (drop (at + 1) line) in
     rw (fields-next line at end h found, fields_within line end g)
-    (split-some (λ fs. none ≡ by_fields k (a ∷ b ∷ c ∷ fs)) space (drop (end + 1) line) (λ p ps. refl))
+    (split-some (λ fs. None ≡ by_fields k (a ∷ b ∷ c ∷ fs)) space (drop (end + 1) line) (λ p ps. refl))

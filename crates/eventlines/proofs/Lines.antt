@@ -1,9 +1,9 @@
 -- A line by its word's number: an `input` names at most 32 enclaves and every other event none, so that the event with the padded list tells the call.
 -- Assumes nothing.
+use Rattle.std.specs.Prelude.{None, Option, Some}
 use mathlib.Core.Path.{◌≡◌, refl, sym, ap, ◌∙◌}
 use mathlib.Core.Bool.{Bool, true, false, cond}
 use mathlib.Core.List.{List, [], ◌∷◌}
-use mathlib.Core.Option.{Option, none, some}
 use Prim.Native.Nat.{ℕ, suc, ◌≤◌}
 use native.Mathlib.Omega.{arith}
 use lib.Dec.{eqb}
@@ -29,7 +29,7 @@ use Rattle.eventlines.proofs.Listed.{take-padded}
 record Plain (c : Option Call) : Type 0 where
   plain : named_in c ≡ []
 
-plain-none : Plain none
+plain-none : Plain None
 plain-none = record { plain = refl }
 
 plain-cond : (b : Bool) {x y : Option Call} → Plain x → Plain y → Plain (cond b x y)
@@ -37,17 +37,17 @@ plain-cond true p q = p
 plain-cond false p q = q
 
 plain-given : {X : Type 0} (o : Option X) (f : X → Call) → ((x : X) → inputs (f x) ≡ []) → Plain (given o f)
-plain-given none f h = plain-none
-plain-given (some x) f h = record { plain = h x }
+plain-given None f h = plain-none
+plain-given (Some x) f h = record { plain = h x }
 
 plain-both : {X Y : Type 0} (o : Option X) (p : Option Y) (f : X → Y → Call) → ((x : X) (y : Y) → inputs (f x y) ≡ []) → Plain (both o p f)
-plain-both none p f h = plain-none
-plain-both (some x) p f h = plain-given p (f x) (h x)
+plain-both None p f h = plain-none
+plain-both (Some x) p f h = plain-given p (f x) (h x)
 
 plain-three : {W X Y : Type 0} (o : Option W) (p : Option X) (q : Option Y) (f : W → X → Y → Call) → ((w : W) (x : X) (y : Y) → inputs (f w x y) ≡ [])
     → Plain (three o p q f)
-plain-three none p q f h = plain-none
-plain-three (some w) p q f h = plain-both p q (f w) (h w)
+plain-three None p q f h = plain-none
+plain-three (Some w) p q f h = plain-both p q (f w) (h w)
 
 plain-fields : (k : ℕ) (fs : List (List ℕ)) → Plain (by_fields k fs)
 unfolding without_fields with_one_field with_two_fields with_three_fields
@@ -73,23 +73,23 @@ plain-fields k (a ∷ b ∷ c ∷ d ∷ fs) = plain-none
 
 -- ---- an `input` names at most 32
 
-both-cons : (o : Option ℕ) (p : Option (List ℕ)) (es : List ℕ) (n : ℕ) → both o p ◌∷◌ ≡ some es
-    → ((ds : List ℕ) → p ≡ some ds → length ds ≡ n) → length es ≡ suc n
-both-cons none p es n h g = let z : ◌≡◌ {A = ℕ} 0 1 = cc in absurd (omega arith)
-both-cons (some e) none es n h g = let z : ◌≡◌ {A = ℕ} 0 1 = cc in absurd (omega arith)
-both-cons (some e) (some ds) es n h g = let z : e ∷ ds ≡ es = cc in sym (ap length z) ∙ ap suc (g ds refl)
+both-cons : (o : Option ℕ) (p : Option (List ℕ)) (es : List ℕ) (n : ℕ) → both o p ◌∷◌ ≡ Some es
+    → ((ds : List ℕ) → p ≡ Some ds → length ds ≡ n) → length es ≡ suc n
+both-cons None p es n h g = let z : ◌≡◌ {A = ℕ} 0 1 = cc in absurd (omega arith)
+both-cons (Some e) None es n h g = let z : ◌≡◌ {A = ℕ} 0 1 = cc in absurd (omega arith)
+both-cons (Some e) (Some ds) es n h g = let z : e ∷ ds ≡ es = cc in sym (ap length z) ∙ ap suc (g ds refl)
 
-length-words : (fs : List (List ℕ)) (es : List ℕ) → words fs ≡ some es → length es ≡ length fs
+length-words : (fs : List (List ℕ)) (es : List ℕ) → words fs ≡ Some es → length es ≡ length fs
 length-words [] es h = let z : [] ≡ es = cc in sym (ap length z)
 length-words (f ∷ fs) es h = both-cons (word_of f) (words fs) es (length fs) h (λ ds q. length-words fs ds q)
 
-listed-names : (o : Option ℕ) (fs : List (List ℕ)) → ((n : ℕ) → o ≡ some n → n ≤ 32) → length (named_in (listed o fs)) ≤ 32
-listed-names none fs b = omega arith
-listed-names (some n) fs b = by-test (eqb n (length fs)) (λ e. rw e (by-words (eqb-true n (length fs) e) (words fs) refl)) (λ e. rw e (omega arith))
+listed-names : (o : Option ℕ) (fs : List (List ℕ)) → ((n : ℕ) → o ≡ Some n → n ≤ 32) → length (named_in (listed o fs)) ≤ 32
+listed-names None fs b = omega arith
+listed-names (Some n) fs b = by-test (eqb n (length fs)) (λ e. rw e (by-words (eqb-true n (length fs) e) (words fs) refl)) (λ e. rw e (omega arith))
   where
     by-words : n ≡ length fs → (o : Option (List ℕ)) → words fs ≡ o → length (named_in (given o input)) ≤ 32
-    by-words e none q = omega arith
-    by-words e (some es) q = omega (arith, length-words fs es q, b n refl)
+    by-words e None q = omega arith
+    by-words e (Some es) q = omega (arith, length-words fs es q, b n refl)
 
 input-names : (fs : List (List ℕ)) → length (named_in (input_of fs)) ≤ 32
 input-names [] = omega arith
@@ -99,12 +99,12 @@ input-names (n ∷ es) = listed-names (number_of 32 n) es (λ k q. number-le 32 
 
 listed-event : (o : Option ℕ) (fs : List (List ℕ))
     → event_for (listed o fs) ≡ cond (is_given (listed o fs)) (event.Input (length (named_in (listed o fs)))) event.NoEvent
-listed-event none fs = refl
-listed-event (some n) fs = by-test (eqb n (length fs)) (λ e. rw e (by-words (words fs))) (λ e. rw e)
+listed-event None fs = refl
+listed-event (Some n) fs = by-test (eqb n (length fs)) (λ e. rw e (by-words (words fs))) (λ e. rw e)
   where
     by-words : (o : Option (List ℕ)) → event_for (given o input) ≡ cond (is_given (given o input)) (event.Input (length (named_in (given o input)))) event.NoEvent
-    by-words none = refl
-    by-words (some es) = refl
+    by-words None = refl
+    by-words (Some es) = refl
 
 input-event : (fs : List (List ℕ)) → event_for (input_of fs) ≡ cond (is_given (input_of fs)) (event.Input (length (named_in (input_of fs)))) event.NoEvent
 input-event [] = refl
@@ -153,24 +153,24 @@ line-names line =
     omega (arith, ap length (ap named_in q ∙ (plain-fields k (fields_from a line)).plain)))
 
 told_back : (c : Option Call) → length (named_in c) ≤ 32 → told_event (event_for c) (padded 32 (named_in c)) ≡ c
-told_back none h = refl
-told_back (some (active e)) h = refl
-told_back (some (publish e t)) h = refl
-told_back (some (complete e t m)) h = refl
-told_back (some (observed e g)) h = refl
-told_back (some (stopped e)) h = refl
-told_back (some (failed e)) h = refl
-told_back (some (acquire r t)) h = refl
-told_back (some (sent r t u)) h = refl
-told_back (some (observe e r o)) h = refl
-told_back (some (idle r)) h = refl
-told_back (some stop) h = refl
-told_back (some (horizon t)) h = refl
-told_back (some (begin e t)) h = refl
-told_back (some (late e t)) h = refl
-told_back (some (done e t)) h = refl
-told_back (some (input es)) h = ap (λ (l : List ℕ). some (input l)) (take-padded 32 es h)
-told_back (some progress) h = refl
+told_back None h = refl
+told_back (Some (active e)) h = refl
+told_back (Some (publish e t)) h = refl
+told_back (Some (complete e t m)) h = refl
+told_back (Some (observed e g)) h = refl
+told_back (Some (stopped e)) h = refl
+told_back (Some (failed e)) h = refl
+told_back (Some (acquire r t)) h = refl
+told_back (Some (sent r t u)) h = refl
+told_back (Some (observe e r o)) h = refl
+told_back (Some (idle r)) h = refl
+told_back (Some stop) h = refl
+told_back (Some (horizon t)) h = refl
+told_back (Some (begin e t)) h = refl
+told_back (Some (late e t)) h = refl
+told_back (Some (done e t)) h = refl
+told_back (Some (input es)) h = ap (λ (l : List ℕ). Some (input l)) (take-padded 32 es h)
+told_back (Some progress) h = refl
 
 -- the event that tells a line's call tells it beside the line's enclaves
 pub event-tells : (line : List ℕ) (r : Event) (c : Option Call) → r ≡ event_for c → event_of line ≡ c → told_event r (enclaves_of line) ≡ event_of line

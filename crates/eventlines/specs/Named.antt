@@ -1,6 +1,5 @@
 -- What the fields of an `input` line name, as the code holds it. Assumes nothing.
-use Rattle.std.proofs.Math.Option.{Option}
-use Rattle.std.specs.Prelude.{length}
+use Rattle.std.specs.Prelude.{length, Option}
 use Rattle.rules.specs.Model.{Call}
 use Rattle.events.specs.Told.{named_in, padded, is_given}
 use Rattle.eventlines.specs.declared.Named.{Named}

@@ -2,8 +2,7 @@
 // New here: the Rust reads no script. A line that is no event is told as none; nothing else is refused.
 #![tactic(auto)]
 
-ghost use Rattle.std.specs.Prelude.{◌≡◌, ◌∷◌, ◌+◌, ◌≤◌, ◌<◌, length, drop};
-ghost use Rattle.std.proofs.Math.Option.{none, some};
+ghost use Rattle.std.specs.Prelude.{◌≡◌, ◌∷◌, ◌+◌, ◌≤◌, ◌<◌, length, drop, None, Some};
 ghost use Rattle.numerals.specs.Numerals.{space};
 ghost use Rattle.numerals.specs.Told.{until};
 ghost use Rattle.events.specs.Events.{event_number, listed, input_of, by_fields, event_of};
@@ -11,7 +10,6 @@ ghost use Rattle.events.specs.Told.{told_event, event_for, enclaves_of, fields_f
 ghost use Rattle.eventlines.specs.Named.{named_of};
 
 use events::Event;
-use records::OptionalNumber;
 
 // What the fields of an `input` line name: whether they are good, how many enclaves, and these, with 0 after them.
 #[derive(Clone, Copy)]
@@ -86,7 +84,7 @@ fn with_fields(kind: u8, line: &[u8], at: usize) -> Event
 }
 
 fn unnamed() -> Named
-    ensures { result ≡ named_of none }
+    ensures { result ≡ named_of None }
 {
     Named {
         good: false,
@@ -97,7 +95,7 @@ fn unnamed() -> Named
 
 fn listed_enclaves(line: &[u8], from: usize, n: usize) -> Named
     requires { n ≤ 32 }
-    ensures { result ≡ named_of (listed (some n) (fields_from from line.now)) }
+    ensures { result ≡ named_of (listed (Some n) (fields_from from line.now)) }
 {
     let mut enclaves: [u32; 32] = [0; 32];
     let mut count: usize = 0;
@@ -108,7 +106,7 @@ fn listed_enclaves(line: &[u8], from: usize, n: usize) -> Named
         }
         let end = field_end(line, at);
         let w = numerals::number(&line[at + 1..end], 4294967295);
-        let OptionalNumber::Number(e) = w else {
+        let Some(e) = w else {
             return unnamed();
         };
         enclaves[count] = e as u32;
@@ -134,8 +132,8 @@ fn input_fields(line: &[u8], at: usize) -> Named
     let end = field_end(line, at);
     let n = numerals::number(&line[at + 1..end], 32);
     match n {
-        OptionalNumber::NoNumber => unnamed(),
-        OptionalNumber::Number(k) => listed_enclaves(line, end, k as usize),
+        None => unnamed(),
+        Some(k) => listed_enclaves(line, end, k as usize),
     }
 }
 

@@ -1,60 +1,55 @@
 -- What the code's answers tell, in the terms of Events, and the enclaves that an `input` line names. Assumes nothing.
-use Rattle.std.specs.Prelude.{ℕ, zero, suc, ◌+◌, Bool, true, false, cond, List, [], ◌∷◌, ltb, length, take, drop}
-use Rattle.std.proofs.Math.Option.{Option, none, some}
+use Rattle.std.specs.Prelude.{ℕ, zero, suc, ◌+◌, Bool, true, false, cond, List, [], ◌∷◌, ltb, length, take, drop, None, Option, Some}
 use Rattle.numerals.specs.Numerals.{split, space}
 use Rattle.rules.specs.Model.{Observation}
 use Rattle.rules.specs.Model.{Call, active, stopped, publish, complete, observed, failed, acquire, sent, observe, idle, stop, progress, horizon, begin, late, done, input}
 use Rattle.events.specs.declared.Event.{Event}
 use Rattle.events.specs.declared.Event.TheVariants as event
-use Rattle.events.specs.declared.ReadMark.{ReadMark}
-use Rattle.events.specs.declared.ReadMark.TheVariants.{NotMark, Mark}
-use Rattle.events.specs.declared.ReadObservation.{ReadObservation}
-use Rattle.events.specs.declared.ReadObservation.TheVariants.{NotObservation, Observing}
 use Rattle.events.specs.Events.{event_of}
 
 -- ---- events
 
 -- the call that an event tells; what `input` names stands beside it
 abbrev pub told_event : Event → List ℕ → Option Call
-told_event event.NoEvent es = none
-told_event (event.Active e) es = some (active e)
-told_event (event.Publish e t) es = some (publish e t)
-told_event (event.Complete e t m) es = some (complete e t m)
-told_event (event.Observed e g) es = some (observed e g)
-told_event (event.Stopped e) es = some (stopped e)
-told_event (event.Failed e) es = some (failed e)
-told_event (event.Acquire r t) es = some (acquire r t)
-told_event (event.Sent r t h) es = some (sent r t h)
-told_event (event.Observe e r o) es = some (observe e r o)
-told_event (event.Idle r) es = some (idle r)
-told_event event.Stop es = some stop
-told_event (event.Horizon t) es = some (horizon t)
-told_event (event.Begin e t) es = some (begin e t)
-told_event (event.Late e t) es = some (late e t)
-told_event (event.Done e t) es = some (done e t)
-told_event (event.Input n) es = some (input (take n es))
-told_event event.Progress es = some progress
+told_event event.NoEvent es = None
+told_event (event.Active e) es = Some (active e)
+told_event (event.Publish e t) es = Some (publish e t)
+told_event (event.Complete e t m) es = Some (complete e t m)
+told_event (event.Observed e g) es = Some (observed e g)
+told_event (event.Stopped e) es = Some (stopped e)
+told_event (event.Failed e) es = Some (failed e)
+told_event (event.Acquire r t) es = Some (acquire r t)
+told_event (event.Sent r t h) es = Some (sent r t h)
+told_event (event.Observe e r o) es = Some (observe e r o)
+told_event (event.Idle r) es = Some (idle r)
+told_event event.Stop es = Some stop
+told_event (event.Horizon t) es = Some (horizon t)
+told_event (event.Begin e t) es = Some (begin e t)
+told_event (event.Late e t) es = Some (late e t)
+told_event (event.Done e t) es = Some (done e t)
+told_event (event.Input n) es = Some (input (take n es))
+told_event event.Progress es = Some progress
 
 -- the event that tells a call; the count of enclaves for `input`
 abbrev pub event_for : Option Call → Event
-event_for none = event.NoEvent
-event_for (some (active e)) = event.Active e
-event_for (some (publish e t)) = event.Publish e t
-event_for (some (complete e t m)) = event.Complete e t m
-event_for (some (observed e g)) = event.Observed e g
-event_for (some (stopped e)) = event.Stopped e
-event_for (some (failed e)) = event.Failed e
-event_for (some (acquire r t)) = event.Acquire r t
-event_for (some (sent r t h)) = event.Sent r t h
-event_for (some (observe e r o)) = event.Observe e r o
-event_for (some (idle r)) = event.Idle r
-event_for (some stop) = event.Stop
-event_for (some (horizon t)) = event.Horizon t
-event_for (some (begin e t)) = event.Begin e t
-event_for (some (late e t)) = event.Late e t
-event_for (some (done e t)) = event.Done e t
-event_for (some (input es)) = event.Input (length es)
-event_for (some progress) = event.Progress
+event_for None = event.NoEvent
+event_for (Some (active e)) = event.Active e
+event_for (Some (publish e t)) = event.Publish e t
+event_for (Some (complete e t m)) = event.Complete e t m
+event_for (Some (observed e g)) = event.Observed e g
+event_for (Some (stopped e)) = event.Stopped e
+event_for (Some (failed e)) = event.Failed e
+event_for (Some (acquire r t)) = event.Acquire r t
+event_for (Some (sent r t h)) = event.Sent r t h
+event_for (Some (observe e r o)) = event.Observe e r o
+event_for (Some (idle r)) = event.Idle r
+event_for (Some stop) = event.Stop
+event_for (Some (horizon t)) = event.Horizon t
+event_for (Some (begin e t)) = event.Begin e t
+event_for (Some (late e t)) = event.Late e t
+event_for (Some (done e t)) = event.Done e t
+event_for (Some (input es)) = event.Input (length es)
+event_for (Some progress) = event.Progress
 
 -- ---- the enclaves of an `input` line
 
@@ -79,8 +74,8 @@ inputs (input es) = es
 inputs progress = []
 
 abbrev pub named_in : Option Call → List ℕ
-named_in none = []
-named_in (some c) = inputs c
+named_in None = []
+named_in (Some c) = inputs c
 
 -- the first n, with 0 where there are fewer
 abbrev pub padded : ℕ → List ℕ → List ℕ
@@ -94,17 +89,9 @@ enclaves_of line = padded 32 (named_in (event_of line))
 
 -- ---- inside: the fields read, and the places between them
 
-abbrev pub told_mark : ReadMark → Option Bool
-told_mark NotMark = none
-told_mark (Mark b) = some b
-
-abbrev pub told_observation : ReadObservation → Option Observation
-told_observation NotObservation = none
-told_observation (Observing o) = some o
-
 abbrev pub is_given : Option Call → Bool
-is_given none = false
-is_given (some c) = true
+is_given None = false
+is_given (Some c) = true
 
 -- the fields of a line after the space at this place; none where the line has ended
 unfoldable pub fields_from : ℕ → List ℕ → List (List ℕ)

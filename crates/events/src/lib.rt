@@ -4,28 +4,27 @@
 
 ghost use Rattle.std.specs.Prelude.{◌≡◌};
 ghost use Rattle.events.specs.Events.{mark_of, observation_of, with_one_field, with_two_fields, with_three_fields};
-ghost use Rattle.events.specs.Told.{event_for, told_mark, told_observation};
+ghost use Rattle.events.specs.Told.{event_for};
 
-use numerals::ReadTag;
-use records::{Observation, OptionalEnclave, OptionalNumber};
-use tags::{OptionalTag, Tag};
+use records::Observation;
+use tags::Tag;
 
 // The call that a line tells, by its word in document 01. `Input` has the count of the enclaves that stand beside it.
 #[derive(Clone, Copy)]
 pub enum Event {
     NoEvent,
     Active(u32),
-    Publish(u32, OptionalTag),
+    Publish(u32, Option<Tag>),
     Complete(u32, Tag, bool),
     Observed(u32, u64),
     Stopped(u32),
-    Failed(OptionalEnclave),
+    Failed(Option<u32>),
     Acquire(u64, Tag),
-    Sent(u64, OptionalTag, OptionalTag),
+    Sent(u64, Option<Tag>, Option<Tag>),
     Observe(u32, u64, Observation),
     Idle(u64),
     Stop,
-    Horizon(OptionalTag),
+    Horizon(Option<Tag>),
     Begin(u32, Tag),
     Late(u32, Tag),
     Done(u32, Tag),
@@ -33,47 +32,33 @@ pub enum Event {
     Progress,
 }
 
-// What stands for `0|1`.
-#[derive(Clone, Copy)]
-pub enum ReadMark {
-    NotMark,
-    Mark(bool),
-}
-
-// What stands for `probed|parked|rechecked`.
-#[derive(Clone, Copy)]
-pub enum ReadObservation {
-    NotObservation,
-    Observing(Observation),
-}
-
 // `0|1`.
-fn mark(t: &[u8]) -> ReadMark
-    ensures { told_mark result ≡ mark_of t.now }
+fn mark(t: &[u8]) -> Option<bool>
+    ensures { result ≡ mark_of t.now }
 {
     if octets::same_bytes(t, b"0") {
-        return ReadMark::Mark(false);
+        return Some(false);
     }
     if octets::same_bytes(t, b"1") {
-        return ReadMark::Mark(true);
+        return Some(true);
     }
-    ReadMark::NotMark
+    None
 }
 
 // `probed|parked|rechecked`.
-fn observation(t: &[u8]) -> ReadObservation
-    ensures { told_observation result ≡ observation_of t.now }
+fn observation(t: &[u8]) -> Option<Observation>
+    ensures { result ≡ observation_of t.now }
 {
     if octets::same_bytes(t, b"probed") {
-        return ReadObservation::Observing(Observation::Probed);
+        return Some(Observation::Probed);
     }
     if octets::same_bytes(t, b"parked") {
-        return ReadObservation::Observing(Observation::Parked);
+        return Some(Observation::Parked);
     }
     if octets::same_bytes(t, b"rechecked") {
-        return ReadObservation::Observing(Observation::Rechecked);
+        return Some(Observation::Rechecked);
     }
-    ReadObservation::NotObservation
+    None
 }
 
 // `active E`, `stopped E`, `failed E|-`, `idle R`, `horizon T|-`.
@@ -82,23 +67,23 @@ pub fn with_one_field(kind: u8, a: &[u8]) -> Event
     ensures { result ≡ event_for (with_one_field kind a.now) }
 {
     if kind == 12 {
-        let ReadTag::Read(tag) = numerals::optional_tag(a) else {
+        let Some(tag) = numerals::optional_tag(a) else {
             return Event::NoEvent;
         };
         return Event::Horizon(tag);
     }
     let absent = octets::same_bytes(a, b"-");
     if kind == 6 && absent {
-        return Event::Failed(OptionalEnclave::NoEnclave);
+        return Event::Failed(None);
     }
     let most = if kind == 10 { u64::MAX } else { 4294967295 };
-    let OptionalNumber::Number(n) = numerals::number(a, most) else {
+    let Some(n) = numerals::number(a, most) else {
         return Event::NoEvent;
     };
     match kind {
         1 => Event::Active(n as u32),
         5 => Event::Stopped(n as u32),
-        6 => Event::Failed(OptionalEnclave::Enclave(n as u32)),
+        6 => Event::Failed(Some(n as u32)),
         10 => Event::Idle(n),
         _ => Event::NoEvent,
     }
@@ -110,22 +95,22 @@ pub fn with_two_fields(kind: u8, a: &[u8], b: &[u8]) -> Event
     ensures { result ≡ event_for (with_two_fields kind a.now b.now) }
 {
     let most = if kind == 7 { u64::MAX } else { 4294967295 };
-    let OptionalNumber::Number(n) = numerals::number(a, most) else {
+    let Some(n) = numerals::number(a, most) else {
         return Event::NoEvent;
     };
     if kind == 2 {
-        let ReadTag::Read(next_event) = numerals::optional_tag(b) else {
+        let Some(next_event) = numerals::optional_tag(b) else {
             return Event::NoEvent;
         };
         return Event::Publish(n as u32, next_event);
     }
     if kind == 4 {
-        let OptionalNumber::Number(generation) = numerals::number(b, u64::MAX) else {
+        let Some(generation) = numerals::number(b, u64::MAX) else {
             return Event::NoEvent;
         };
         return Event::Observed(n as u32, generation);
     }
-    let OptionalTag::At(tag) = numerals::tag(b) else {
+    let Some(tag) = numerals::tag(b) else {
         return Event::NoEvent;
     };
     match kind {
@@ -143,33 +128,33 @@ pub fn with_three_fields(kind: u8, a: &[u8], b: &[u8], c: &[u8]) -> Event
     ensures { result ≡ event_for (with_three_fields kind a.now b.now c.now) }
 {
     let most = if kind == 8 { u64::MAX } else { 4294967295 };
-    let OptionalNumber::Number(n) = numerals::number(a, most) else {
+    let Some(n) = numerals::number(a, most) else {
         return Event::NoEvent;
     };
     match kind {
         3 => {
-            let OptionalTag::At(tag) = numerals::tag(b) else {
+            let Some(tag) = numerals::tag(b) else {
                 return Event::NoEvent;
             };
-            let ReadMark::Mark(network_input) = mark(c) else {
+            let Some(network_input) = mark(c) else {
                 return Event::NoEvent;
             };
             Event::Complete(n as u32, tag, network_input)
         }
         8 => {
-            let ReadTag::Read(next_event) = numerals::optional_tag(b) else {
+            let Some(next_event) = numerals::optional_tag(b) else {
                 return Event::NoEvent;
             };
-            let ReadTag::Read(horizon) = numerals::optional_tag(c) else {
+            let Some(horizon) = numerals::optional_tag(c) else {
                 return Event::NoEvent;
             };
             Event::Sent(n, next_event, horizon)
         }
         9 => {
-            let OptionalNumber::Number(revision) = numerals::number(b, u64::MAX) else {
+            let Some(revision) = numerals::number(b, u64::MAX) else {
                 return Event::NoEvent;
             };
-            let ReadObservation::Observing(seen) = observation(c) else {
+            let Some(seen) = observation(c) else {
                 return Event::NoEvent;
             };
             Event::Observe(n as u32, revision, seen)

@@ -3,8 +3,7 @@
 // refused as document 01 says of what it names.
 #![tactic(auto)]
 
-ghost use Rattle.std.specs.Prelude.{◌≡◌};
-ghost use Rattle.std.proofs.Math.Option.{none, some};
+ghost use Rattle.std.specs.Prelude.{◌≡◌, None, Some};
 ghost use Rattle.actions.specs.Reading.{read_action};
 ghost use Rattle.asking.specs.Asked.{asked_of};
 ghost use Rattle.plain.specs.Given.{call_of};
@@ -74,7 +73,7 @@ fn opened(
     revision: u64,
     generation: u64,
 ) -> OpenedNumbers
-    ensures { result ≡ opened_numbers (some policy) enclaves.now revision generation }
+    ensures { result ≡ opened_numbers (Some policy) enclaves.now revision generation }
 {
     let opening = opening::new(enclaves, policy, revision, generation);
     let refusal = opening.refusal;
@@ -87,7 +86,7 @@ fn opened(
 
 // An opening of nobody gives the blank state.
 fn no_policy(enclaves: &[u32], revision: u64, generation: u64) -> OpenedNumbers
-    ensures { result ≡ opened_numbers none enclaves.now revision generation }
+    ensures { result ≡ opened_numbers None enclaves.now revision generation }
 {
     let nobody = opening::new(
         &enclaves[..0],
@@ -97,7 +96,7 @@ fn no_policy(enclaves: &[u32], revision: u64, generation: u64) -> OpenedNumbers
     );
     let state = nobody.state;
     OpenedNumbers {
-        refusal: records::refusal_number(Refusal::ScriptOutOfForm),
+        refusal: records::refusal_number(Some(Refusal::ScriptOutOfForm)),
         state,
     }
 }

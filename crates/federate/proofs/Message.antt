@@ -1,4 +1,5 @@
 -- What a scheduler message is to the rules, by its cases, and where its enclave stands. Assumes nothing.
+use Rattle.std.specs.Prelude.{None, Option, Some}
 use mathlib.Core.Path.{◌≡◌, refl, sym, ◌∙◌}
 use mathlib.Core.Bool.{Bool, true, false, ◌&&◌}
 use mathlib.Core.List.{List}
@@ -10,7 +11,7 @@ use lib.ListN.{get_or}
 use Rattle.tags.specs.Tags.{proper_if_present}
 use Rattle.records.specs.declared.SchedulerMessage.{SchedulerMessage}
 use Rattle.records.specs.declared.SchedulerMessage.TheVariants as message
-use Rattle.rules.specs.Model.{OptionalEnclave, NoEnclave, Enclave, Participant, State, Silent}
+use Rattle.rules.specs.Model.{Participant, State}
 use Rattle.rules.specs.Walk.{knows}
 use Rattle.rules.specs.Calls.{facts, all_proper, knows_all, ascending}
 use Rattle.state.specs.declared.FederateCoordinationState.{FederateCoordinationState as Held}
@@ -46,7 +47,7 @@ never-wrong (message.CompletionObserved e g) s = refl
 never-wrong (message.ParticipantStopped e) s = refl
 never-wrong (message.Failed e) s = refl
 
-pub is-silent : (m : SchedulerMessage) (s : State) → (facts (call_of m)).answer s ≡ Silent
+pub is-silent : (m : SchedulerMessage) (s : State) → (facts (call_of m)).answer s ≡ None
 is-silent (message.Active e) s = refl
 is-silent (message.Publish e c) s = refl
 is-silent (message.CompleteTag e t n) s = refl
@@ -68,9 +69,9 @@ message-proper (message.CompletionObserved e g) = refl
 message-proper (message.ParticipantStopped e) = refl
 message-proper (message.Failed e) = refl
 
-abbrev knows_optional : OptionalEnclave → List Participant → Bool
-knows_optional NoEnclave ps = true
-knows_optional (Enclave e) ps = knows e ps
+abbrev knows_optional : Option ℕ → List Participant → Bool
+knows_optional None ps = true
+knows_optional (Some e) ps = knows e ps
 
 names-one : (m : SchedulerMessage) (ps : List Participant) → knows_all (facts (call_of m)).names ps ≡ knows_optional (enclave_of m) ps
 names-one (message.Active e) ps = and_yes (knows e ps)
@@ -78,27 +79,27 @@ names-one (message.Publish e c) ps = and_yes (knows e ps)
 names-one (message.CompleteTag e t n) ps = and_yes (knows e ps)
 names-one (message.CompletionObserved e g) ps = and_yes (knows e ps)
 names-one (message.ParticipantStopped e) ps = and_yes (knows e ps)
-names-one (message.Failed NoEnclave) ps = refl
-names-one (message.Failed (Enclave e)) ps = and_yes (knows e ps)
+names-one (message.Failed None) ps = refl
+names-one (message.Failed (Some e)) ps = and_yes (knows e ps)
 
 -- ---- where it stands
 
-unknown-optional : (x : OptionalEnclave) (s : Held) (i : ℕ) → 1 ≤ s.count → i ≡ place_of x s.enclaves s.count → s.count ≤ i → knows_optional x (rows_of s) ≡ false
-unknown-optional NoEnclave s i h q l = absurd (omega arith)
-unknown-optional (Enclave e) s i h q l = unknown-knows s e i q l
+unknown-optional : (x : Option ℕ) (s : Held) (i : ℕ) → 1 ≤ s.count → i ≡ place_of x s.enclaves s.count → s.count ≤ i → knows_optional x (rows_of s) ≡ false
+unknown-optional None s i h q l = absurd (omega arith)
+unknown-optional (Some e) s i h q l = unknown-knows s e i q l
 
 pub message-unknown : (m : SchedulerMessage) (s : Held) (i : ℕ) → 1 ≤ s.count → i ≡ place_of (enclave_of m) s.enclaves s.count → s.count ≤ i → knows_all (facts (call_of m)).names (rows_of s) ≡ false
 message-unknown m s i h q l = names-one m (rows_of s) ∙ unknown-optional (enclave_of m) s i h q l
 
 -- the enclave at place i is the one that is named, if any
-pub record Sits (x : OptionalEnclave) (s : Held) (i : ℕ) : Type 0 where
+pub record Sits (x : Option ℕ) (s : Held) (i : ℕ) : Type 0 where
   pub seat : Seated s (get_or s.enclaves i 0) i
   pub named : Names x (get_or s.enclaves i 0)
   pub knows : knows_optional x (rows_of s) ≡ true
 
-pub sits : (x : OptionalEnclave) (s : Held) (i : ℕ) → T (ascending (rows_of s)) → i ≡ place_of x s.enclaves s.count → i < s.count → Sits x s i
-sits NoEnclave s i a q l = rw q (record { seat = first-seated s a (omega arith); named = tt; knows = refl })
-sits (Enclave e) s i a q l =
+pub sits : (x : Option ℕ) (s : Held) (i : ℕ) → T (ascending (rows_of s)) → i ≡ place_of x s.enclaves s.count → i < s.count → Sits x s i
+sits None s i a q l = rw q (record { seat = first-seated s a (omega arith); named = tt; knows = refl })
+sits (Some e) s i a q l =
     let w = seated s e i a q l in
     let z : get_or s.enclaves i 0 ≡ e = eqb-true (get_or s.enclaves i 0) e w.here in
     record { seat = rw z w; named = sym z; knows = known s e i w }

@@ -1,5 +1,6 @@
 -- The ways out of a scheduler call that depend on its message: whether its enclave is known, a spent generation; and that no refusal is left.
 -- Assumes nothing.
+use Rattle.std.specs.Prelude.{None, Some}
 use mathlib.Core.Path.{◌≡◌, refl, sym, ap, ◌∙◌}
 use mathlib.Core.Bool.{Bool, true, false, ◌&&◌}
 use mathlib.Core.List.{List}
@@ -11,7 +12,7 @@ use borrow.Author.Tests.{ltb-true, ltb-false}
 use Rattle.tags.specs.Tags.{proper_if_present}
 use Rattle.records.specs.declared.Refusal.TheVariants.{GenerationSpent}
 use Rattle.records.specs.declared.SchedulerMessage.{SchedulerMessage}
-use Rattle.rules.specs.Model.{Silent, Given}
+use Rattle.rules.specs.Model.{Given}
 use Rattle.rules.specs.Calls.{facts, own_step, knows_all, is_spent}
 use Rattle.state.specs.declared.FederateCoordinationState.{FederateCoordinationState as Held}
 use Rattle.state.specs.View.{view}
@@ -40,11 +41,11 @@ module _ (room : List ℕ) (m : SchedulerMessage) (s : Held) where
   module _ (st : Standing s) (wide : 56 * (s.count + 2) ≤ length room) (proper : proper_if_present (tag_of m) ≡ true) where
     module _ (i : ℕ) (place : Sits (enclave_of m) s i) {b : Bool} (e : ((facts (call_of m)).message && is_spent (own_step (call_of m) (view s)).state) ≡ b) where
       -- 9
-      pub out-spent : {r : Called} (t : Held) → b ≡ true → t ≡ s → r ≡ replied t GenerationSpent Silent 0 → Ends given s r room room
+      pub out-spent : {r : Called} (t : Held) → b ≡ true → t ≡ s → r ≡ replied t (Some GenerationSpent) None 0 → Ends given s r room room
       out-spent t h z q =
-          ends-refused given s room (is-silent m (view s)) GenerationSpent
+          ends-refused given s room (is-silent m (view s)) (Some GenerationSpent)
           (refusal-9 given s st.passing (roomy (call_of m) s (length room) wide) (message-proper m ∙ proper) (message-known m s i place) (never-wrong m (view s)) (e ∙ h)) (omega arith)
-          (q ∙ ap (λ (x : Held). replied x GenerationSpent Silent 0) z)
+          (q ∙ ap (λ (x : Held). replied x (Some GenerationSpent) None 0) z)
 
       -- taken
       pub open-call : b ≡ false → 0 ≡ refusal_of given s

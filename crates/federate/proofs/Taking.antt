@@ -1,6 +1,7 @@
 -- A scheduler call past 27, 8, 7 and 3, told of plain values: the first half is decided for the enclave's place, the second concluded from the state between,
 -- the completion step taken from the state after it; a spent generation puts the enclave's cells back, and else the room has the records of what
 -- both steps say. Assumes nothing.
+use Rattle.std.specs.Prelude.{None, Some}
 use mathlib.Core.Path.{◌≡◌, refl, sym, ap, ◌∙◌, subst}
 use mathlib.Core.Bool.{true, false, ◌&&◌}
 use mathlib.Core.List.{List, [], ◌++◌}
@@ -11,9 +12,9 @@ use lib.Dec.{T}
 use lib.IntN.{ℤ, pos}
 use lib.ListN.{length, get_or}
 use Rattle.tags.specs.Tags.{proper_if_present}
-use Rattle.records.specs.declared.Refusal.TheVariants.{Taken, GenerationSpent}
+use Rattle.records.specs.declared.Refusal.TheVariants.{GenerationSpent}
 use Rattle.records.specs.declared.SchedulerMessage.{SchedulerMessage}
-use Rattle.rules.specs.Model.{CoordinationAction, Silent, Step}
+use Rattle.rules.specs.Model.{CoordinationAction, Step}
 use Rattle.rules.specs.Calls.{facts, all_proper, own_step, take_step, is_spent}
 use Rattle.state.specs.declared.FederateCoordinationState.{FederateCoordinationState as Held}
 use Rattle.state.specs.declared.Decided.{Decided}
@@ -215,7 +216,7 @@ module _ (room : List ℕ) (m : SchedulerMessage) (s : Held) (i : ℕ) (n : Ente
         spent : ((facts (call_of m)).message && is_spent (own_step (call_of m) (view s)).state) ≡ a.spent
         spent = spent-is s m i d k good n.place (is-so n.proper) decides neat concludes a advances
 
-        pub ends-9 : a.spent ≡ true → (x w : Row) → w ≡ row_of s i → (t : Held) → t ≡ with_row (with_row s i x) i w → r ≡ replied t GenerationSpent Silent 0
+        pub ends-9 : a.spent ≡ true → (x w : Row) → w ≡ row_of s i → (t : Held) → t ≡ with_row (with_row s i x) i w → r ≡ replied t (Some GenerationSpent) None 0
             → Ends (lent (length room) (call_of m)) s r room room
         ends-9 h x w row t p q =
             out-spent room m s n.stands n.wide n.proper i n.place spent t h
@@ -223,7 +224,7 @@ module _ (room : List ℕ) (m : SchedulerMessage) (s : Held) (i : ℕ) (n : Ente
 
         ends_so : a.spent ≡ false → (room₁ : List ℕ) (total : ℕ)
             → Adds (actions_of (get_or s.enclaves i 0) k.said k.coordination ++ said_by s.enclaves (halfway s i d).seconds (halfway s i d).nanoseconds (halfway s i d).microsteps s.count a.saying a) room 0 room₁ total
-            → r ≡ replied (whole_end s i d k a) Taken Silent total → Ends (lent (length room) (call_of m)) s r room room₁
+            → r ≡ replied (whole_end s i d k a) None None total → Ends (lent (length room) (call_of m)) s r room room₁
         ends_so free room₁ total adds q =
             ends-taken (lent (length room) (call_of m)) s room (is-silent m (view s)) n.stands unrefused (whole_end s i d k a) (said ++ later)
             (end-beyond s m i d k good n.place (is-so n.proper) decides neat concludes a advances)
@@ -254,8 +255,8 @@ module _ (room : List ℕ) (m : SchedulerMessage) (s : Held) (i : ℕ) (n : Ente
         -- whatever the state is called that was stored before the records were written, and the one handed back
         pub ends-0 : a.spent ≡ false → (u : Held) → u ≡ observed_end s i d k a → (t : Held) → t ≡ whole_end s i d k a → (room₁ : List ℕ) (total : ℕ)
             → Adds (actions_of (get_or u.enclaves i 0) k.said k.coordination ++ said_by u.enclaves u.seconds u.nanoseconds u.microsteps s.count a.saying a) room 0 room₁ total
-            → r ≡ replied t Taken Silent total → Ends (lent (length room) (call_of m)) s r room room₁
+            → r ≡ replied t None None total → Ends (lent (length room) (call_of m)) s r room room₁
         ends-0 free u y t z room₁ total adds q =
             ends_so free room₁ total
             (subst (λ (x : Held). Adds (actions_of (get_or x.enclaves i 0) k.said k.coordination ++ said_by x.enclaves x.seconds x.nanoseconds x.microsteps s.count a.saying a) room 0 room₁ total) y adds)
-            (q ∙ ap (λ (x : Held). replied x Taken Silent total) z)
+            (q ∙ ap (λ (x : Held). replied x None None total) z)

@@ -11,17 +11,17 @@ ghost use Rattle.calls.specs.Called.{lent, actions_of, Promised};
 ghost use Rattle.federate.specs.Places.{place_of};
 
 use calls::Called;
-use records::{Answer, OptionalEnclave, Refusal, SchedulerMessage};
+use records::{Refusal, SchedulerMessage};
 use state::{FederateCoordinationState, Parts};
 
 // The place of the enclave that is named, or the first place where nobody is.
-fn place_of(enclaves: &[u32; 32], count: usize, enclave: OptionalEnclave) -> usize
+fn place_of(enclaves: &[u32; 32], count: usize, enclave: Option<u32>) -> usize
     requires { (count ≤ 32) × Apart enclaves.now count }
     ensures { result ≡ place_of enclave enclaves.now count }
 {
     match enclave {
-        OptionalEnclave::NoEnclave => 0,
-        OptionalEnclave::Enclave(e) => table::seat_of(enclaves, count, e),
+        None => 0,
+        Some(e) => table::seat_of(enclaves, count, e),
     }
 }
 
@@ -77,7 +77,7 @@ pub fn handle_scheduler(
         count,
         small,
     ) {
-        return calls::with_reply(state, Refusal::UnsoundState, Answer::Silent, 0);
+        return calls::with_reply(state, Some(Refusal::UnsoundState), None, 0);
     }
     let flat = dispatch::flat_of(message);
     let tag = flat.tag;
@@ -86,7 +86,7 @@ pub fn handle_scheduler(
     let place = place_of(&state.enclaves, count, enclave);
     if !calls::is_open(room.len(), count, proper, place < count) {
         let refusal = calls::room_first(room.len(), count, calls::tag_first(proper, place < count));
-        return calls::with_reply(state, refusal, Answer::Silent, 0);
+        return calls::with_reply(state, refusal, None, 0);
     }
     let row = table::row_at(
         &state.published,
@@ -146,7 +146,7 @@ pub fn handle_scheduler(
         table::put_nanoseconds(&mut state.nanoseconds, place, row);
         state.completion_observed[place] = row.completion_observed;
         state.acknowledged[place] = row.acknowledged;
-        return calls::with_reply(state, Refusal::GenerationSpent, Answer::Silent, 0);
+        return calls::with_reply(state, Some(Refusal::GenerationSpent), None, 0);
     }
     let last_completion = advanced.completion;
     state.completion = last_completion;
@@ -178,5 +178,5 @@ pub fn handle_scheduler(
         let held_gate = state.gate;
         state.gate = publication::dropped(held_gate);
     }
-    calls::with_reply(state, Refusal::Taken, Answer::Silent, total)
+    calls::with_reply(state, None, None, total)
 }

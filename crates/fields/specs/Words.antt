@@ -1,7 +1,7 @@
 -- Document 01, "Script and its listing": a line and its words: "answer (0, 1 or `-`)", "phase in lower case", settled as 0 or 1. Assumes nothing.
-use Rattle.std.specs.Prelude.{ℕ, Bool, true, false, List, [], ◌∷◌, ◌++◌}
+use Rattle.std.specs.Prelude.{ℕ, Bool, true, false, List, [], ◌∷◌, ◌++◌, None, Option, Some}
 use Rattle.numerals.specs.Numerals.{text}
-use Rattle.rules.specs.Model.{CoordinationPhase, Active, Probing, Parking, Rechecking, Parked, AwaitingIdleConfirmation, Stopped, Answer, Silent, No, Yes}
+use Rattle.rules.specs.Model.{CoordinationPhase, Active, Probing, Parking, Rechecking, Parked, AwaitingIdleConfirmation, Stopped}
 
 -- words with single spaces between them, LF-ended
 abbrev pub line : List (List ℕ) → List ℕ
@@ -13,10 +13,10 @@ abbrev pub mark_text : Bool → List ℕ
 mark_text false = text "0"
 mark_text true = text "1"
 
-abbrev pub answer_text : Answer → List ℕ
-answer_text Silent = text "-"
-answer_text No = text "0"
-answer_text Yes = text "1"
+abbrev pub answer_text : Option Bool → List ℕ
+answer_text None = text "-"
+answer_text (Some false) = text "0"
+answer_text (Some true) = text "1"
 
 -- the Rust's names in lower case
 abbrev pub phase_text : CoordinationPhase → List ℕ

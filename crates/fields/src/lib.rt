@@ -9,14 +9,14 @@ ghost use Rattle.fields.specs.Words.{line, phase_text};
 ghost use Rattle.fields.specs.Fields.{word_of, room_of, words, field_text, fields_text, rest};
 
 use records::CoordinationPhase;
-use tags::OptionalTag;
+use tags::Tag;
 
 // A word of a line after the first, by what it says; a line with fewer words has blank fields.
 #[derive(Clone, Copy)]
 pub enum Field {
     Blank,
     Number(u64),
-    Time(OptionalTag),
+    Time(Option<Tag>),
     Phase(CoordinationPhase),
 }
 

@@ -1,5 +1,6 @@
 -- `begin_tag` on plain values: its tests are those of the rule, and the state with the started tag stored is the rule's. The enclave's place is the
 -- only one that the rule asks of and changes. Assumes nothing.
+use Rattle.std.specs.Prelude.{None, Option, Some}
 use mathlib.Core.Path.{◌≡◌, refl, sym, ap, ap₂, ◌∙◌, subst}
 use mathlib.Core.Bool.{Bool, true, false, not, cond, ◌&&◌}
 use mathlib.Core.List.{map}
@@ -9,7 +10,7 @@ use lib.Dec.{T}
 use lib.IntN.{pos}
 use lib.ListN.{get_or, set}
 use Rattle.tags.specs.Tags.{◌≤ₜ◌, within, is_proper}
-use Rattle.rules.specs.Model.{Tag, OptionalTag, NoTag, At, begin}
+use Rattle.rules.specs.Model.{Tag, begin}
 use Rattle.rules.specs.Set.{with_started}
 use Rattle.rules.specs.Walk.{knows, at, only, quiet, is_stopped}
 use Rattle.rules.specs.Gate.{may_begin, begun, begin_tag_of}
@@ -34,20 +35,20 @@ module _ (s : Held) (e : ℕ) (t : Tag) where
   may = may_begin (view s).input_horizon e t (view s)
 
   -- without input horizon
-  no-horizon : is_absent s.gate.input_horizon ≡ true → (view s).input_horizon ≡ NoTag
-  no-horizon h = ap (λ b. cond b NoTag (At s.gate.input_horizon)) h
+  no-horizon : is_absent s.gate.input_horizon ≡ true → (view s).input_horizon ≡ None
+  no-horizon h = ap (λ b. cond b None (Some s.gate.input_horizon)) h
 
   pub may_free : is_absent s.gate.input_horizon ≡ true → may_begin (view s).input_horizon e t (view s) ≡ true
   may_free h = ap (λ m. may_begin m e t (view s)) (no-horizon h)
 
   pub step-free : is_absent s.gate.input_horizon ≡ true → take_step (begin e t) (view s) ≡ quiet (view s)
   unfolding take_step own_step begin_tag_of
-  step-free h = ap (λ (m : OptionalTag). cond (may_begin m e t (view s)) (quiet (begun m e t (view s))) (quiet (view s))) (no-horizon h)
+  step-free h = ap (λ (m : Option Tag). cond (may_begin m e t (view s)) (quiet (begun m e t (view s))) (quiet (view s))) (no-horizon h)
 
   -- with one
   module _ (h : is_absent s.gate.input_horizon ≡ false) where
-    a-horizon : (view s).input_horizon ≡ At s.gate.input_horizon
-    a-horizon = ap (λ b. cond b NoTag (At s.gate.input_horizon)) h
+    a-horizon : (view s).input_horizon ≡ Some s.gate.input_horizon
+    a-horizon = ap (λ b. cond b None (Some s.gate.input_horizon)) h
 
     pub may-unknown : knows e (rows_of s) ≡ false → may_begin (view s).input_horizon e t (view s) ≡ false
     may-unknown k =
@@ -64,11 +65,11 @@ module _ (s : Held) (e : ℕ) (t : Tag) where
         ap (λ m. may_begin m e t (view s)) a-horizon ∙
         ap₂ (λ a b. not a && t ≤ₜ s.gate.input_horizon && b) (stopped-is s g.neat) (any-seated s e i d (λ p. within t p.granted))
 
-    pub step-begun : may ≡ true → take_step (begin e t) (view s) ≡ quiet (only e (with_started (At t)) (view s))
+    pub step-begun : may ≡ true → take_step (begin e t) (view s) ≡ quiet (only e (with_started (Some t)) (view s))
     unfolding take_step own_step begin_tag_of
     step-begun y =
         ap (λ (b : Bool). cond b (quiet (begun (view s).input_horizon e t (view s))) (quiet (view s))) y ∙
-        ap (λ (m : OptionalTag). quiet (begun m e t (view s))) a-horizon
+        ap (λ (m : Option Tag). quiet (begun m e t (view s))) a-horizon
 
   pub step-denied : may ≡ false → take_step (begin e t) (view s) ≡ quiet (view s)
   unfolding take_step own_step begin_tag_of
@@ -111,7 +112,7 @@ module _ (s : Held) (e i : ℕ) (t : Tag) (g : Good s) (few : s.count ≤ 32) (d
       let z = g.sized in
       tag-set-same s.seconds s.nanoseconds s.microsteps (64 + i) t z.seconds z.nanoseconds z.microsteps (let w = d.within in omega arith)
 
-  row_by : (j : ℕ) (m : OptionalTag) → j < 32 → optional_of (tag_at then (64 + j)) ≡ m → row_at then j ≡ with_started m (row_at s j)
+  row_by : (j : ℕ) (m : Option Tag) → j < 32 → optional_of (tag_at then (64 + j)) ≡ m → row_at then j ≡ with_started m (row_at s j)
   row_by j m h q = λ k. record {
     index = get_or s.enclaves j 0;
     candidate = optional_of (other j (λ z. omega arith) k);
@@ -123,13 +124,13 @@ module _ (s : Held) (e i : ℕ) (t : Tag) (g : Good s) (few : s.count ≤ 32) (d
     started = q k;
   }
 
-  started-rows : rows_of then ≡ map (at e (with_started (At t))) (rows_of s)
+  started-rows : rows_of then ≡ map (at e (with_started (Some t))) (rows_of s)
   started-rows =
-      only_row s then e i (with_started (At t)) d refl
-      (row_by i (At t) (let w = d.within in omega arith) (ap optional_of same ∙ ap (λ b. cond b NoTag (At t)) (proper-present t is-proper)))
+      only_row s then e i (with_started (Some t)) d refl
+      (row_by i (Some t) (let w = d.within in omega arith) (ap optional_of same ∙ ap (λ b. cond b None (Some t)) (proper-present t is-proper)))
       (λ j l n. row_by j (optional_of (tag_at s (64 + j))) (omega arith) (ap optional_of (other (64 + j) (λ z. n (omega arith)))))
 
-  pub started-view : only e (with_started (At t)) (view s) ≡ view then
+  pub started-view : only e (with_started (Some t)) (view s) ≡ view then
   started-view = λ k. record {
     participants = sym started-rows k;
     lifecycle = (view s).lifecycle;
@@ -151,7 +152,7 @@ module _ (s : Held) (e i : ℕ) (t : Tag) (g : Good s) (few : s.count ≤ 32) (d
   neat-tag k h old =
       let z = g.sized in
       tag-set-cases s.seconds s.nanoseconds s.microsteps (64 + i) t (λ t. T (is_neat t)) z.seconds z.nanoseconds z.microsteps k h
-      (neat-cell (At t) is-proper) old
+      (neat-cell (Some t) is-proper) old
 
   pub started-neat : T (represents then)
   started-neat =

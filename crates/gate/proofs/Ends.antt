@@ -1,5 +1,6 @@
 -- What a call of this crate promises at each of its returns, on plain values: the refusal by the tests made so far, the answer by the rule's test, and
 -- the state stored. One law for the four calls that give one tag and name no enclave. Assumes nothing.
+use Rattle.std.specs.Prelude.{Option, Some, None}
 use mathlib.Core.Path.{◌≡◌, refl, sym, ap, ap₂, ◌∙◌, subst}
 use mathlib.Core.Bool.{Bool, true, false, not, cond, ◌&&◌, ◌||◌}
 use mathlib.Core.List.{List, [], ◌∷◌}
@@ -10,8 +11,8 @@ use lib.ListN.{length}
 use Rattle.tags.specs.Tags.{within, is_proper, proper_if_present}
 use Rattle.records.specs.Numbers.{refusal_number}
 use Rattle.records.specs.declared.Refusal.{Refusal}
-use Rattle.records.specs.declared.Refusal.TheVariants.{Taken, UnsoundState, ImproperTag}
-use Rattle.rules.specs.Model.{Tag, OptionalTag, At, State, Silent, No, Call, Given, horizon, begin, late, done, input}
+use Rattle.records.specs.declared.Refusal.TheVariants.{UnsoundState, ImproperTag}
+use Rattle.rules.specs.Model.{Tag, State, Call, Given, horizon, begin, late, done, input}
 use Rattle.rules.specs.Walk.{knows, quiet}
 use Rattle.rules.specs.Gate.{is_late, is_completed}
 use Rattle.rules.specs.Calls.{facts, says, own_step, take_step, is_sound, room_for, all_proper, knows_all, is_spent, refused_answer}
@@ -34,20 +35,20 @@ use Rattle.state.proofs.Seats.{any-seated, any-unknown}
 -- ---- the refusals
 
 -- a call that takes no room, gives one tag, names no enclave and is no message
-pub record Asks (c : Call) (t : OptionalTag) : Type 0 where
+pub record Asks (c : Call) (t : Option Tag) : Type 0 where
   pub roomless : (facts c).takes_room ≡ false
   pub tags : (facts c).tags ≡ t ∷ []
   pub nameless : (facts c).names ≡ []
   pub right : (m : State) → (facts c).wrong_in m ≡ false
   pub unspent : (facts c).message ≡ false
 
-pub asks-horizon : (h : OptionalTag) → Asks (horizon h) h
+pub asks-horizon : (h : Option Tag) → Asks (horizon h) h
 asks-horizon h = record { roomless = refl; tags = refl; nameless = refl; right = λ m. refl; unspent = refl }
 
-pub asks-begin : (e : ℕ) (t : Tag) → Asks (begin e t) (At t)
+pub asks-begin : (e : ℕ) (t : Tag) → Asks (begin e t) (Some t)
 asks-begin e t = record { roomless = refl; tags = refl; nameless = refl; right = λ m. refl; unspent = refl }
 
-module _ (c : Call) (t : OptionalTag) (k : Asks c t) (s : Held) (p : Passes s) where
+module _ (c : Call) (t : Option Tag) (k : Asks c t) (s : Held) (p : Passes s) where
   roomy : ((facts c).takes_room && ltb 0 (room_for (view s))) ≡ false
   roomy = ap (λ b. b && ltb 0 (room_for (view s))) k.roomless
 
@@ -72,7 +73,7 @@ module _ (es : List ℕ) (s : Held) (p : Passes s) where
 -- ---- what is promised of a state handed back
 
 -- a refused question answers no
-pub refused-no : (b : Bool) → No ≡ refused_answer (says b)
+pub refused-no : (b : Bool) → (Some false) ≡ refused_answer (says b)
 refused-no true = refl
 refused-no false = refl
 
@@ -82,7 +83,7 @@ refused-no false = refl
 abbrev capped : Gate → Tag → Gate
 capped g t = record { input_horizon = t; stored_revision = g.stored_revision; stored_granted = g.stored_granted; granted = g.granted }
 
-module _ (s : Held) (h : OptionalTag) (st : Standing s) (proper : proper_if_present h ≡ true) where
+module _ (s : Held) (h : Option Tag) (st : Standing s) (proper : proper_if_present h ≡ true) where
   is-proper : T (proper_if_present h)
   is-proper = subst T (sym proper) tt
 
@@ -111,48 +112,48 @@ module _ (s : Held) (h : OptionalTag) (st : Standing s) (proper : proper_if_pres
       neat-with-gate s st.good.neat (capped s.gate (cell_of h))
       (gate-whole (capped s.gate (cell_of h)) (record { input_horizon = neat-cell h is-proper; granted = w.granted; stored = w.stored; revision = w.revision }))
 
-  pub ends-capped : (t : Tag) (r : Called) → t ≡ cell_of h → r ≡ replied (with_gate (capped s.gate t) s) Taken Silent 0 → Promised (lent 0 (horizon h)) s r
+  pub ends-capped : (t : Tag) (r : Called) → t ≡ cell_of h → r ≡ replied (with_gate (capped s.gate t) s) None None 0 → Promised (lent 0 (horizon h)) s r
   ends-capped t r q e =
-      promised-taken (lent 0 (horizon h)) s st (asks-0 (horizon h) h (asks-horizon h) s st.passing proper) Silent refl (with_gate (capped s.gate (cell_of h)) s) []
+      promised-taken (lent 0 (horizon h)) s st (asks-0 (horizon h) h (asks-horizon h) s st.passing proper) None refl (with_gate (capped s.gate (cell_of h)) s) []
       (beyond-columns s (with_gate (capped s.gate (cell_of h)) s) refl refl refl refl refl refl refl refl refl) capped-neat step-capped refl
-      (e ∙ ap (λ x. replied (with_gate (capped s.gate x) s) Taken Silent 0) q)
+      (e ∙ ap (λ x. replied (with_gate (capped s.gate x) s) None None 0) q)
 
 -- ---- what is promised of a question that hands no state back
 
-abbrev pub answering : Refusal → Bool → Reply
+abbrev pub answering : Option Refusal → Bool → Reply
 answering n b = record { refusal = n; answer = says b; actions = 0 }
 
 module _ (g : Given) (s : Held) where
-  shown : (t : Held) (n : Refusal) (b : Bool) → Promised g s (replied t n (says b) 0) → Replies g s (answering n b)
+  shown : (t : Held) (n : Option Refusal) (b : Bool) → Promised g s (replied t n (says b) 0) → Replies g s (answering n b)
   shown t n b p = record { refusal = p.refusal; answer = p.answer; actions = p.actions }
 
-  replies-refused : (q : State → Bool) (n : Refusal) → (facts g.what).answer (view s) ≡ says (q (view s)) → refusal_number n ≡ refusal_of g s → 0 < refusal_number n → Replies g s (answering n false)
-  replies-refused q n a h l = shown s n false (refused g s n No h l (refused-no (q (view s)) ∙ ap refused_answer (sym a)))
+  replies-refused : (q : State → Bool) (n : Option Refusal) → (facts g.what).answer (view s) ≡ says (q (view s)) → refusal_number n ≡ refusal_of g s → 0 < refusal_number n → Replies g s (answering n false)
+  replies-refused q n a h l = shown s n false (refused g s n (Some false) h l (refused-no (q (view s)) ∙ ap refused_answer (sym a)))
 
-  replies-taken : (b : Bool) → 0 ≡ refusal_of g s → says b ≡ (facts g.what).answer (view s) → take_step g.what (view s) ≡ quiet (view s) → Replies g s (answering Taken b)
-  replies-taken b z a q = shown (put s (take_step g.what (view s)).state) Taken b (taken g s (put s (take_step g.what (view s)).state) (says b) 0 z a (ap (λ o. length o.actions) (sym q)) refl)
+  replies-taken : (b : Bool) → 0 ≡ refusal_of g s → says b ≡ (facts g.what).answer (view s) → take_step g.what (view s) ≡ quiet (view s) → Replies g s (answering None b)
+  replies-taken b z a q = shown (put s (take_step g.what (view s)).state) None b (taken g s (put s (take_step g.what (view s)).state) (says b) 0 z a (ap (λ o. length o.actions) (sym q)) refl)
 
 -- c asks q about the tag t, and changes nothing
 pub record Question (c : Call) (t : Tag) (q : State → Bool) : Type 0 where
-  pub asks : Asks c (At t)
+  pub asks : Asks c (Some t)
   pub answers : (m : State) → (facts c).answer m ≡ says (q m)
   pub still : (m : State) → take_step c m ≡ quiet m
 
 module _ {c : Call} {t : Tag} {q : State → Bool} (k : Question c t q) (s : Held) (r : Reply) where
-  pub asked-27 : r ≡ answering UnsoundState false → (represents s && is_sound (view s)) ≡ false → Replies (lent 0 c) s r
+  pub asked-27 : r ≡ answering (Some UnsoundState) false → (represents s && is_sound (view s)) ≡ false → Replies (lent 0 c) s r
   asked-27 e h =
       subst (Replies (lent 0 c) s) (sym e)
-      (replies-refused (lent 0 c) s q UnsoundState (k.answers (view s)) (refusal-27 (lent 0 c) s h) (omega arith))
+      (replies-refused (lent 0 c) s q (Some UnsoundState) (k.answers (view s)) (refusal-27 (lent 0 c) s h) (omega arith))
 
-  pub asked-7 : r ≡ answering ImproperTag false → ((represents s && is_sound (view s)) ≡ true) × (is_proper t ≡ false) → Replies (lent 0 c) s r
+  pub asked-7 : r ≡ answering (Some ImproperTag) false → ((represents s && is_sound (view s)) ≡ true) × (is_proper t ≡ false) → Replies (lent 0 c) s r
   asked-7 e h =
       subst (Replies (lent 0 c) s) (sym e)
-      (replies-refused (lent 0 c) s q ImproperTag (k.answers (view s)) (asks-7 c (At t) k.asks s (passes s h.0) h.1) (omega arith))
+      (replies-refused (lent 0 c) s q (Some ImproperTag) (k.answers (view s)) (asks-7 c (Some t) k.asks s (passes s h.0) h.1) (omega arith))
 
-  pub asked-0 : (b : Bool) → r ≡ answering Taken b → Admits s t → b ≡ q (view s) → Replies (lent 0 c) s r
+  pub asked-0 : (b : Bool) → r ≡ answering None b → Admits s t → b ≡ q (view s) → Replies (lent 0 c) s r
   asked-0 b e h y =
       subst (Replies (lent 0 c) s) (sym e)
-      (replies-taken (lent 0 c) s b (asks-0 c (At t) k.asks s (passes s h.passes) h.proper) (ap says y ∙ sym (k.answers (view s))) (k.still (view s)))
+      (replies-taken (lent 0 c) s b (asks-0 c (Some t) k.asks s (passes s h.passes) h.proper) (ap says y ∙ sym (k.answers (view s))) (k.still (view s)))
 
 -- ---- input_is_late, input_completed
 

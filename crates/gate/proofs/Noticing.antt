@@ -1,5 +1,6 @@
 -- `input_publishing` on plain values: the state with the observations cleared, the named unpublished and the small parts revised and dropped is the
 -- rule's. By the participants place by place. Assumes nothing.
+use Rattle.std.specs.Prelude.{None, Some}
 use mathlib.Core.Path.{◌≡◌, refl, sym, ◌∙◌, subst}
 use mathlib.Core.Bool.{Bool, true, false}
 use mathlib.Core.List.{List, map, map-map, []}
@@ -9,8 +10,8 @@ use lib.Dec.{T}
 use lib.IntN.{pos}
 use lib.ListN.{length, get_or, drop, length-append, length-drop, get_or-append}
 use lib.Seq.{get_or-append-add, get_or-drop}
-use Rattle.records.specs.declared.Refusal.TheVariants.{Taken, UnknownEnclave}
-use Rattle.rules.specs.Model.{NoTag, Silent, input}
+use Rattle.records.specs.declared.Refusal.TheVariants.{UnknownEnclave}
+use Rattle.rules.specs.Model.{input}
 use Rattle.rules.specs.Walk.{quiet}
 use Rattle.rules.specs.Publication.{forget, revise_of}
 use Rattle.rules.specs.Gate.{noticed, input_publishing_of}
@@ -104,7 +105,7 @@ module _ (s : Held) (es : List ℕ) (g : Good s) (few : s.count ≤ 32) where
         published = stays_within s.enclaves es s.published s.count j h k;
         completion_observed = number_if (get_or s.acknowledged j false) (get_or s.completion_observed j 0);
         observation = observation_of (cleared-within s.count s.observation j h k);
-        granted = NoTag;
+        granted = None;
         started = optional_of (tag_at s (64 + j));
       }
 
@@ -121,7 +122,7 @@ module _ (s : Held) (es : List ℕ) (g : Good s) (few : s.count ≤ 32) where
     completed_frontier = (view s).completed_frontier;
     pending_inputs = (view s).pending_inputs;
     completion_generation = (view s).completion_generation;
-    completion_probe = NoTag;
+    completion_probe = None;
     first_failure = (view s).first_failure;
     input_horizon = (view s).input_horizon;
     input_acquisition = (view then).input_acquisition;
@@ -141,7 +142,7 @@ module _ (s : Held) (es : List ℕ) (g : Good s) (few : s.count ≤ 32) where
         });
         coordination = neat-revised s.coordination;
         completion = neat-unprobed s.completion v.completion;
-        gate = gate-whole (dropped s.gate) (record { input_horizon = w.input_horizon; granted = neat-cell NoTag tt; stored = neat-cell NoTag tt; revision = tt });
+        gate = gate-whole (dropped s.gate) (record { input_horizon = w.input_horizon; granted = neat-cell None tt; stored = neat-cell None tt; revision = tt });
         horizon = v.horizon;
         failure = v.failure;
         policy = v.policy;
@@ -166,14 +167,14 @@ module _ (s : Held) (es : List ℕ) (st : Standing s) {known : Bool} (q : known 
   knowing : knows_all es (rows_of s) ≡ known
   knowing = knows-found s st.ascends es ∙ sym q
 
-  pub ends-unknown : (r : Called) → known ≡ false → r ≡ replied s UnknownEnclave Silent 0 → Promised (lent 0 (input es)) s r
-  ends-unknown r h e = promised-refused (lent 0 (input es)) s UnknownEnclave Silent (input-3 es s st.passing (knowing ∙ h)) (omega arith) refl e
+  pub ends-unknown : (r : Called) → known ≡ false → r ≡ replied s (Some UnknownEnclave) None 0 → Promised (lent 0 (input es)) s r
+  ends-unknown r h e = promised-refused (lent 0 (input es)) s (Some UnknownEnclave) None (input-3 es s st.passing (knowing ∙ h)) (omega arith) refl e
 
   pub ends-noticed : (published : List Bool) (observation : List ℕ) (c : Coordination) (k : Completion) (g : Gate) (r : Called) → known ≡ true
       → published ≡ unlisted s.enclaves es s.published s.count → observation ≡ cleared s.count s.observation → c ≡ revised_of s.coordination
-      → k ≡ unprobed_of s.completion → g ≡ dropped s.gate → r ≡ replied (storing s published observation c k g) Taken Silent 0 → Promised (lent 0 (input es)) s r
+      → k ≡ unprobed_of s.completion → g ≡ dropped s.gate → r ≡ replied (storing s published observation c k g) None None 0 → Promised (lent 0 (input es)) s r
   ends-noticed published observation c k g r h p o x y z e =
       let few = st.few in
-      promised-taken (lent 0 (input es)) s st (input-0 es s st.passing (knowing ∙ h)) Silent refl (noticed_state s es) []
+      promised-taken (lent 0 (input es)) s st (input-0 es s st.passing (knowing ∙ h)) None refl (noticed_state s es) []
       (noticed-beyond s es st.good few) (noticed-neat s es st.good few) (step-noticed s es st.good few) refl
-      (e ∙ (λ i. replied (storing s (p i) (o i) (x i) (y i) (z i)) Taken Silent 0))
+      (e ∙ (λ i. replied (storing s (p i) (o i) (x i) (y i) (z i)) None None 0))

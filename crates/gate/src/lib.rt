@@ -13,9 +13,9 @@ ghost use Rattle.gate.specs.Replies.{Replies};
 ghost use Rattle.gate.specs.Parts.{all_found, unlisted, permits};
 
 use calls::{Called, Reply};
-use records::{Answer, EnclaveIndex, Refusal};
+use records::{EnclaveIndex, Refusal};
 use state::{ABSENT, COMPLETED, FederateCoordinationState, Gate, STARTED};
-use tags::{OptionalTag, Tag};
+use tags::Tag;
 
 fn is_within_cell(tag: Tag, cell: Tag) -> bool
     ensures { result ≡ within tag (optional_of cell) }
@@ -25,21 +25,21 @@ fn is_within_cell(tag: Tag, cell: Tag) -> bool
 }
 
 // Stores the input horizon; changes nothing else.
-pub fn set_input_horizon(mut state: FederateCoordinationState, horizon: OptionalTag) -> Called
+pub fn set_input_horizon(mut state: FederateCoordinationState, horizon: Option<Tag>) -> Called
     ensures { Promised (lent 0 (capping horizon)) state result }
 {
-    let mut refusal = Refusal::UnsoundState;
+    let mut refusal = Some(Refusal::UnsoundState);
     if soundness::is_sound(state) {
-        refusal = Refusal::ImproperTag;
+        refusal = Some(Refusal::ImproperTag);
         if tags::proper_if_present(horizon) {
             let mut gate = state.gate;
             let cell = state::cell_of(horizon);
             gate.input_horizon = cell;
             state.gate = gate;
-            refusal = Refusal::Taken;
+            refusal = None;
         }
     }
-    calls::with_reply(state, refusal, Answer::Silent, 0)
+    calls::with_reply(state, refusal, None, 0)
 }
 
 fn may_begin(phase: u8, gate: Gate, tag: Tag) -> bool
@@ -58,14 +58,14 @@ pub fn begin_tag(mut state: FederateCoordinationState, enclave: EnclaveIndex, ta
     let coordination = state.coordination;
     let gate = state.gate;
     let horizon = gate.input_horizon;
-    let mut refusal = Refusal::Taken;
-    let mut answer = Answer::No;
+    let mut refusal = None;
+    let mut answer = Some(false);
     if !soundness::is_sound(state) {
-        refusal = Refusal::UnsoundState;
+        refusal = Some(Refusal::UnsoundState);
     } else if !tags::is_proper(tag) {
-        refusal = Refusal::ImproperTag;
+        refusal = Some(Refusal::ImproperTag);
     } else if state::is_absent(horizon) {
-        answer = Answer::Yes;
+        answer = Some(true);
     } else {
         let place = table::find(&state.enclaves, count, enclave);
         if place < count && may_begin(coordination.phase, gate, tag) {
@@ -75,7 +75,7 @@ pub fn begin_tag(mut state: FederateCoordinationState, enclave: EnclaveIndex, ta
             state.seconds[STARTED + place] = seconds;
             state.nanoseconds[STARTED + place] = nanoseconds;
             state.microsteps[STARTED + place] = microstep;
-            answer = Answer::Yes;
+            answer = Some(true);
         }
     }
     calls::with_reply(state, refusal, answer, 0)
@@ -87,12 +87,12 @@ fn asked(state: FederateCoordinationState, enclave: EnclaveIndex, tag: Tag, is_l
     ensures { Replies (lent 0 (cond is_late (late enclave tag) (done enclave tag))) state result }
 {
     let count = state.count;
-    let mut refusal = Refusal::Taken;
+    let mut refusal = None;
     let mut yes = false;
     if !soundness::is_sound(state) {
-        refusal = Refusal::UnsoundState;
+        refusal = Some(Refusal::UnsoundState);
     } else if !tags::is_proper(tag) {
-        refusal = Refusal::ImproperTag;
+        refusal = Some(Refusal::ImproperTag);
     } else {
         let place = table::find(&state.enclaves, count, enclave);
         yes = is_late;
@@ -112,7 +112,7 @@ fn asked(state: FederateCoordinationState, enclave: EnclaveIndex, tag: Tag, is_l
             yes = (is_late & is_within_cell(tag, started)) | is_within_cell(tag, completed);
         }
     }
-    let answer = if yes { Answer::Yes } else { Answer::No };
+    let answer = if yes { Some(true) } else { Some(false) };
     Reply {
         refusal,
         answer,
@@ -191,9 +191,9 @@ pub fn input_publishing(mut state: FederateCoordinationState, affected: &[u32]) 
     let coordination = state.coordination;
     let completion = state.completion;
     let mut gate = state.gate;
-    let mut refusal = Refusal::UnsoundState;
+    let mut refusal = Some(Refusal::UnsoundState);
     if soundness::is_sound(state) {
-        refusal = Refusal::UnknownEnclave;
+        refusal = Some(Refusal::UnknownEnclave);
         if are_known(&state.enclaves, count, affected) {
             let published = state.published;
             let mut observation = state.observation;
@@ -207,8 +207,8 @@ pub fn input_publishing(mut state: FederateCoordinationState, affected: &[u32]) 
             gate.stored_granted = none;
             gate.granted = none;
             state.gate = gate;
-            refusal = Refusal::Taken;
+            refusal = None;
         }
     }
-    calls::with_reply(state, refusal, Answer::Silent, 0)
+    calls::with_reply(state, refusal, None, 0)
 }

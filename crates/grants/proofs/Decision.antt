@@ -1,6 +1,7 @@
 -- What `acquire` decides is the rule in every state that has what it was given, in its three ways: outdated, nothing new, grants. The stored
 -- acquisition is a change of the gate; the participants change place by place; the tags set are proper, so that their cells hold them.
 -- Assumes nothing.
+use Rattle.std.specs.Prelude.{None, Some}
 use mathlib.Core.Path.{◌≡◌, refl, sym, ap, ◌∙◌, subst₃}
 use mathlib.Core.Bool.{Bool, true, false, not, cond, ◌&&◌, ◌||◌}
 use mathlib.Core.List.{List, ◌∷◌, map}
@@ -8,7 +9,7 @@ use Prim.Native.Nat.{ℕ, ◌<◌}
 use native.Mathlib.Omega.{arith}
 use lib.Dec.{T, eqb}
 use Rattle.tags.specs.Tags.{◌≤ₜ◌, lesser_of, greater_of, is_proper, is_present, capped_by}
-use Rattle.rules.specs.Model.{Tag, NoTag, At, NonePending, NoneStored, Stored, AdvanceHorizon}
+use Rattle.rules.specs.Model.{Tag, NoneStored, Stored, AdvanceHorizon}
 use Rattle.rules.specs.Set.{with_participants, with_pending_publication, with_grant_horizon, with_input_acquisition}
 use Rattle.rules.specs.Walk.{emit, outdated}
 use Rattle.rules.specs.Acquisition.{is_newer, stored, is_grantable, grants, granted_up_to, raised_horizon, not_above, nothing_new, is_pending, grant_of, acquire_capped, acquisition_of}
@@ -59,7 +60,7 @@ raised-greater h t e = rw e refl
 pub nothing-as : (c : Coordination) (h t : Tag) {a b : Bool} → a ≡ is_absent h → b ≡ (t ≤ₜ h) → (not c.pending && (a || b)) ≡ nothing c h t
 nothing-as c h t p q = ap (λ b. not c.pending && b) ((λ i. p i || q i) ∙ go (is_absent h))
   where
-    go : (b : Bool) → (b || (t ≤ₜ h)) ≡ not_above t (cond b NoTag (At h))
+    go : (b : Bool) → (b || (t ≤ₜ h)) ≡ not_above t (cond b None (Some h))
     go true = refl
     go false = refl
 
@@ -74,7 +75,7 @@ pub worth-as : (r : ℕ) (t : Tag) (g : Gate) {a b v : Bool} → a ≡ is_absent
     → (a || not b) ≡ v → worth r t g ≡ not v
 worth-as r t g {v = v} e f h = go (is_absent g.input_horizon) (is_newer r t (stored_of g.stored_revision g.stored_granted)) ((λ i. sym e i || not (sym f i)) ∙ h)
   where
-    go : (x y : Bool) → (x || not y) ≡ v → (is_present (cond x NoTag (At g.input_horizon)) && y) ≡ not v
+    go : (x y : Bool) → (x || not y) ≡ v → (is_present (cond x None (Some g.input_horizon)) && y) ≡ not v
     go true y k = ap not k
     go false true k = ap not k
     go false false k = ap not k
@@ -118,7 +119,7 @@ module _ (r : ℕ) (t : Tag) (p : T (is_proper t)) (s : Held) (good : Good s) wh
       new =
           let v = gate-parts s.gate (neat-gate s good.neat) in
           let revision : T (is_zero_unless (not (is_absent t)) r) = rw (proper-present t p) tt in
-          gate-whole (storing r t s.gate) (record { input_horizon = v.input_horizon; granted = v.granted; stored = neat-cell (At t) p; revision = revision })
+          gate-whole (storing r t s.gate) (record { input_horizon = v.input_horizon; granted = v.granted; stored = neat-cell (Some t) p; revision = revision })
 
   -- ---- outdated
 
@@ -174,7 +175,7 @@ module _ (r : ℕ) (t : Tag) (p : T (is_proper t)) (s : Held) (good : Good s) wh
       row-granted : (j : ℕ) → j < s.count → row_at (acquired_in s granted qs) j ≡ granted_up_to reach (row_at held j)
       row-granted j h =
           let e = u.within j h in
-          let f : optional_of reach ≡ At reach = rw (proper-present reach reach-proper) refl in
+          let f : optional_of reach ≡ Some reach = rw (proper-present reach reach-proper) refl in
           λ k. record {
             index = (row_at s j).index;
             candidate = (row_at s j).candidate;
@@ -192,17 +193,17 @@ module _ (r : ℕ) (t : Tag) (p : T (is_proper t)) (s : Held) (good : Good s) wh
       grant-is : grant_of reach (view held) ≡ emit (AdvanceHorizon granted.horizon ∷ grants_in s reach) (view (acquired_in s granted qs))
       unfolding grant_of
       grant-is =
-          let present : optional_of granted.horizon ≡ At granted.horizon = rw (proper-present granted.horizon raised-proper) refl in
+          let present : optional_of granted.horizon ≡ Some granted.horizon = rw (proper-present granted.horizon raised-proper) refl in
           let actions = each_rows held (is_grantable reach) (grants reach) in
           λ k. emit (AdvanceHorizon granted.horizon ∷ actions k)
-          (with_grant_horizon (sym present k) (with_pending_publication NonePending (with_participants (sym rows-granted k) (view held))))
+          (with_grant_horizon (sym present k) (with_pending_publication None (with_participants (sym rows-granted k) (view held))))
 
     moves-on : nothing s.coordination s.grant_horizon reach ≡ false → Acquires r t s granted
     unfolding acquire_capped
     moves-on n = record {
       neat = neat-without-pending s.coordination s.coordination.phase (phase-bound s good.neat) (neat-coordination s good.neat);
       tidy = open-neat;
-      cell = neat-cell (At granted.horizon) raised-proper;
+      cell = neat-cell (Some granted.horizon) raised-proper;
       still = λ z. absurd (let w : ◌≡◌ {A = ℕ} 0 1 = cc in omega arith);
       stays = λ z. absurd (let w : ◌≡◌ {A = ℕ} 0 1 = cc in omega arith);
       moves = λ z qs u. goes_on ∙ rw (nothing_is ∙ n) (grant-is qs u);
@@ -211,7 +212,7 @@ module _ (r : ℕ) (t : Tag) (p : T (is_proper t)) (s : Held) (good : Good s) wh
         open-neat : T (neat_gate (granting reach (kept r t s.gate)))
         open-neat =
             let v = gate-parts (kept r t s.gate) kept-neat in
-            let now = neat-cell (At reach) reach-proper in
+            let now = neat-cell (Some reach) reach-proper in
             gate-whole (granting reach (kept r t s.gate)) (record { input_horizon = v.input_horizon; granted = now; stored = v.stored; revision = v.revision })
 
 -- ---- the answer in each way is right in every state with what was given

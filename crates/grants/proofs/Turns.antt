@@ -1,5 +1,6 @@
 -- One turn of the loop over the flags, on plain values: those granted are cleared up to the place in hand. And a candidate that is granted is there.
 -- Assumes nothing.
+use Rattle.std.specs.Prelude.{None, Some}
 use mathlib.Core.Path.{◌≡◌, refl, sym, ◌∙◌}
 use mathlib.Core.Bool.{Bool, true, false, not, cond, ◌&&◌}
 use mathlib.Core.List.{List}
@@ -11,7 +12,7 @@ use lib.ListN.{length, get_or, set, length-set}
 use lib.Seq.{get_or-set_same, get_or-set_other}
 use borrow.Author.Tests.{eqb-true, eqb-false}
 use Rattle.tags.specs.Tags.{is_at_or_below}
-use Rattle.rules.specs.Model.{Tag, NoTag, At}
+use Rattle.rules.specs.Model.{Tag}
 use Rattle.rules.specs.Acquisition.{tag_or}
 use Rattle.state.specs.Cells.{is_absent, optional_of, tag_in}
 use Rattle.grants.specs.Acquire.{grantable_at, Unpublished}
@@ -21,7 +22,7 @@ use Rattle.grants.specs.Acquire.{grantable_at, Unpublished}
 pub granted-candidate : (c t : Tag) (p : Bool) → (p && is_at_or_below (optional_of c) t) ≡ true → tag_or t (optional_of c) ≡ c
 granted-candidate c t p = go (is_absent c) p
   where
-    go : (b p : Bool) → (p && is_at_or_below (cond b NoTag (At c)) t) ≡ true → tag_or t (cond b NoTag (At c)) ≡ c
+    go : (b p : Bool) → (p && is_at_or_below (cond b None (Some c)) t) ≡ true → tag_or t (cond b None (Some c)) ≡ c
     go true true h = cc
     go true false h = cc
     go false p h = refl

@@ -1,9 +1,10 @@
 -- Document 01, "Script and its listing": the lines of a listing. "prints per event: number, refusal, answer (0, 1 or `-`), action count; then its
 -- actions. Last: `end`, revision, phase in lower case, generation, completed frontier, horizon, settled." Assumes nothing.
-use Rattle.std.specs.Prelude.{ℕ, Bool, List, [], ◌∷◌, ◌++◌}
+use Rattle.tags.specs.declared.Tag.{Tag}
+use Rattle.std.specs.Prelude.{ℕ, Bool, List, [], ◌∷◌, ◌++◌, Option}
 use Rattle.numerals.specs.Numerals.{text}
 use Rattle.printing.specs.Printing.{decimal, tag_text, optional_tag_text}
-use Rattle.rules.specs.Model.{OptionalTag, CoordinationPhase, CoordinationAction, Publish, AdvanceHorizon, Grant, Complete, CompletionProbe, Probe, Park, Recheck, Resume, Stop, Abort, Answer}
+use Rattle.rules.specs.Model.{CoordinationPhase, CoordinationAction, Publish, AdvanceHorizon, Grant, Complete, CompletionProbe, Probe, Park, Recheck, Resume, Stop, Abort}
 use Rattle.fields.specs.Words.{line, mark_text, answer_text, phase_text}
 
 unfoldable pub action_line : CoordinationAction → List ℕ
@@ -24,10 +25,10 @@ action_lines [] = []
 action_lines (a ∷ rest) = action_line a ++ action_lines rest
 
 -- number, refusal, answer, action count
-unfoldable pub event_line : ℕ → ℕ → Answer → ℕ → List ℕ
+unfoldable pub event_line : ℕ → ℕ → Option Bool → ℕ → List ℕ
 event_line number refusal answer count = line (decimal number ∷ decimal refusal ∷ answer_text answer ∷ decimal count ∷ [])
 
-unfoldable pub end_line : ℕ → CoordinationPhase → ℕ → OptionalTag → OptionalTag → Bool → List ℕ
+unfoldable pub end_line : ℕ → CoordinationPhase → ℕ → Option Tag → Option Tag → Bool → List ℕ
 end_line revision phase generation frontier horizon settled =
     line (text "end" ∷ decimal revision ∷ phase_text phase ∷ decimal generation ∷ optional_tag_text frontier ∷ optional_tag_text horizon ∷ mark_text settled ∷ [])
 

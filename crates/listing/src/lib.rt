@@ -12,8 +12,7 @@ ghost use Rattle.listing.specs.Records.{record_line, record_lines};
 
 use actions::ReadAction;
 use fields::Field;
-use records::{Answer, CoordinationAction, CoordinationPhase, Refusal};
-use tags::OptionalTag;
+use records::{CoordinationAction, CoordinationPhase, Refusal};
 
 // Puts the action's line: its word, and what its kind carries.
 pub fn put_action(out: &mut [u8], at: usize, action: CoordinationAction) -> usize
@@ -86,8 +85,8 @@ pub fn put_event(
     out: &mut [u8],
     at: usize,
     number: u64,
-    refusal: Refusal,
-    answer: Answer,
+    refusal: Option<Refusal>,
+    answer: Option<bool>,
     actions: usize,
 ) -> usize
     requires { at + 160 ≤ length out.old }
@@ -97,9 +96,9 @@ pub fn put_event(
     let refused = records::refusal_number(refusal) as u64;
     // `-`, 0 or 1: as an absent tag or a number is put.
     let said = match answer {
-        Answer::Silent => Field::Time(OptionalTag::NoTag),
-        Answer::No => Field::Number(0),
-        Answer::Yes => Field::Number(1),
+        None => Field::Time(None),
+        Some(false) => Field::Number(0),
+        Some(true) => Field::Number(1),
     };
     fields::put_rest(
         out,
@@ -117,8 +116,8 @@ pub fn put_end(
     revision: u64,
     phase: CoordinationPhase,
     generation: u64,
-    completed_frontier: OptionalTag,
-    grant_horizon: OptionalTag,
+    completed_frontier: Option<Tag>,
+    grant_horizon: Option<Tag>,
     settled: bool,
 ) -> usize
     requires { at + 240 ≤ length out.old }
@@ -142,7 +141,7 @@ pub fn put_end(
 }
 
 // Puts the one line of a run that was refused, 11 excepted.
-pub fn put_refused(out: &mut [u8], at: usize, refusal: Refusal) -> usize
+pub fn put_refused(out: &mut [u8], at: usize, refusal: Option<Refusal>) -> usize
     requires { at + 160 ≤ length out.old }
     ensures { Puts out.old at (refused_line (refusal_number refusal)) 160 result out.new }
 {

@@ -7,7 +7,7 @@ use crate::totals;
 use crate::totals::Totals;
 use records::{FederateAcquisition, SchedulerMessage};
 use state::FederateCoordinationState;
-use tags::{OptionalTag, Tag};
+use tags::Tag;
 
 fn tag_of(load: Load, seconds: u64) -> Tag
     requires { seconds ≤ 100001 }
@@ -36,7 +36,7 @@ fn publish(load: Load, turn: u64, place: usize, enclave: u32) -> SchedulerMessag
     };
     SchedulerMessage::Publish {
         enclave,
-        next_event: OptionalTag::At(tag),
+        next_event: Some(tag),
     }
 }
 

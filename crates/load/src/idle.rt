@@ -5,9 +5,8 @@ ghost use Rattle.std.specs.Prelude.{◌≤◌};
 use crate::given::Load;
 use crate::totals::Totals;
 use crate::{steps, totals};
-use records::{Answer, Observation, Refusal, SchedulerMessage};
+use records::{Observation, Refusal, SchedulerMessage};
 use state::FederateCoordinationState;
-use tags::OptionalTag;
 
 const PUBLISHES: u8 = 0;
 
@@ -16,7 +15,7 @@ const REVIVES: u8 = 4;
 fn idle_message(enclave: u32) -> SchedulerMessage {
     SchedulerMessage::Publish {
         enclave,
-        next_event: OptionalTag::NoTag,
+        next_event: None,
     }
 }
 
@@ -34,7 +33,7 @@ pub fn play(opened: FederateCoordinationState, load: Load, enclaves: &[u32]) -> 
 {
     let mut space: [u8; 1904] = [0; 1904];
     let room: &mut [u8] = &mut space;
-    let mut called = calls::with_reply(opened, Refusal::Taken, Answer::Silent, 0);
+    let mut called = calls::with_reply(opened, None, None, 0);
     let mut totals = totals::nothing();
     let mut step = steps::first();
     while step.turn <= load.turns {

@@ -1,7 +1,7 @@
 -- Laws of `integer_of` and its two signs: what the code's bits are, and that what is read fits its width. Assumes nothing.
+use Rattle.std.specs.Prelude.{None, Some, Option}
 use mathlib.Core.Path.{◌≡◌, refl, sym, ap}
 use mathlib.Core.List.{List, [], ◌∷◌}
-use mathlib.Core.Option.{Option, none, some}
 use Prim.Native.Nat.{ℕ, zero, suc, ◌-◌, ◌^◌, ◌<◌, ◌≤◌}
 use native.Mathlib.Omega.{arith}
 use lib.Dec.{eqb}
@@ -12,23 +12,21 @@ use borrow.Author.Tests.{eq-eqb, ne_eqb}
 use mir.Syntax.{Width, w32, w64}
 use mir.Val.{SFits, hbits, to_z}
 use mir.Facts.{to_z-neg}
-use Rattle.numerals.specs.declared.ReadInteger.{ReadInteger}
-use Rattle.numerals.specs.declared.ReadInteger.TheVariants.{NotInteger, Integer}
 use Rattle.numerals.specs.Numerals.{number_of, negated, unsigned, integer_of, minus}
-use Rattle.numerals.specs.Told.{told_integer, Narrow}
+use Rattle.numerals.specs.Told.{Narrow}
 use Rattle.numerals.proofs.Splits.{by-test}
 use Rattle.numerals.proofs.Numbers.{number-le}
 
 -- the bits of a negative number are those of one less, turned over
-pub neg_is : (k : ℕ) → (k ≡ 0 → ⊥) → k ≤ 2 ^ 63 → some (to_z w64 (2 ^ 64 - 1 - (k - 1))) ≡ negated (some k)
+pub neg_is : (k : ℕ) → (k ≡ 0 → ⊥) → k ≤ 2 ^ 63 → Some (to_z w64 (2 ^ 64 - 1 - (k - 1))) ≡ negated (Some k)
 neg_is zero ne h = absurd (ne refl)
 neg_is (suc j) ne h =
     let e : 2 ^ 64 - 1 - (suc j - 1) ≡ 2 ^ 64 - suc j = omega arith in
-    rw e (ap some (to_z-neg w64 j (omega arith)))
+    rw e (ap Some (to_z-neg w64 j (omega arith)))
 
 -- ---- integer_of by its first byte
 
-pub integer-none : (half : ℕ) (t : List ℕ) → length t ≡ 0 → none ≡ integer_of half t
+pub integer-none : (half : ℕ) (t : List ℕ) → length t ≡ 0 → None ≡ integer_of half t
 unfolding integer_of
 integer-none half [] h = refl
 integer-none half (b ∷ bs) h = absurd (omega arith)
@@ -45,16 +43,16 @@ integer-plain half (b ∷ bs) h e = rw (ne_eqb b minus e)
 
 -- ---- what is read fits its width
 
-neg-fits : (w : Width) (n : Option ℕ) (z : ℤ) → ((k : ℕ) → n ≡ some k → k ≤ 2 ^ hbits w) → negated n ≡ some z → SFits w z
-neg-fits w none z b h = let e : ◌≡◌ {A = ℕ} 0 1 = cc in absurd (omega arith)
-neg-fits w (some zero) z b h = let e : ◌≡◌ {A = ℕ} 0 1 = cc in absurd (omega arith)
-neg-fits w (some (suc k)) z b h = let e : negsuc k ≡ z = cc in rw (sym e) (record { sfits = b (suc k) refl })
+neg-fits : (w : Width) (n : Option ℕ) (z : ℤ) → ((k : ℕ) → n ≡ Some k → k ≤ 2 ^ hbits w) → negated n ≡ Some z → SFits w z
+neg-fits w None z b h = let e : ◌≡◌ {A = ℕ} 0 1 = cc in absurd (omega arith)
+neg-fits w (Some zero) z b h = let e : ◌≡◌ {A = ℕ} 0 1 = cc in absurd (omega arith)
+neg-fits w (Some (suc k)) z b h = let e : negsuc k ≡ z = cc in rw (sym e) (record { sfits = b (suc k) refl })
 
-pos-fits : (w : Width) (n : Option ℕ) (z : ℤ) → ((k : ℕ) → n ≡ some k → k < 2 ^ hbits w) → unsigned n ≡ some z → SFits w z
-pos-fits w none z b h = let e : ◌≡◌ {A = ℕ} 0 1 = cc in absurd (omega arith)
-pos-fits w (some k) z b h = let e : pos k ≡ z = cc in rw (sym e) (record { sfits = b k refl })
+pos-fits : (w : Width) (n : Option ℕ) (z : ℤ) → ((k : ℕ) → n ≡ Some k → k < 2 ^ hbits w) → unsigned n ≡ Some z → SFits w z
+pos-fits w None z b h = let e : ◌≡◌ {A = ℕ} 0 1 = cc in absurd (omega arith)
+pos-fits w (Some k) z b h = let e : pos k ≡ z = cc in rw (sym e) (record { sfits = b k refl })
 
-integer-fits : (w : Width) (t : List ℕ) (z : ℤ) → integer_of (2 ^ hbits w) t ≡ some z → SFits w z
+integer-fits : (w : Width) (t : List ℕ) (z : ℤ) → integer_of (2 ^ hbits w) t ≡ Some z → SFits w z
 unfolding integer_of
 integer-fits w [] z h = let e : ◌≡◌ {A = ℕ} 0 1 = cc in absurd (omega arith)
 integer-fits w (b ∷ bs) z h =
@@ -63,6 +61,6 @@ integer-fits w (b ∷ bs) z h =
     (λ e. neg-fits w (number_of half bs) z (λ k q. number-le half bs k q) (rw e at h))
     (λ e. pos-fits w (number_of (half - 1) (b ∷ bs)) z (λ k q. omega (arith, number-le (half - 1) (b ∷ bs) k q, pow_pos (hbits w))) (rw e at h))
 
-pub is-narrow : (n : ReadInteger) (t : List ℕ) → told_integer n ≡ integer_of (2 ^ 31) t → Narrow n
-is-narrow NotInteger t e = tt
-is-narrow (Integer z) t e = integer-fits w32 t z (sym e)
+pub is-narrow : (n : Option ℤ) (t : List ℕ) → n ≡ integer_of (2 ^ 31) t → Narrow n
+is-narrow None t e = tt
+is-narrow (Some z) t e = integer-fits w32 t z (sym e)

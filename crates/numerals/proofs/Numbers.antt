@@ -1,8 +1,8 @@
 -- Laws of `digits_of`, the reading of digits one by one, and of `number_of`. Assumes nothing.
+use Rattle.std.specs.Prelude.{None, Some}
 use mathlib.Core.Path.{◌≡◌, refl}
 use mathlib.Core.Bool.{Bool, true, false, cond, ◌&&◌}
 use mathlib.Core.List.{List, [], ◌∷◌}
-use mathlib.Core.Option.{none, some}
 use Prim.Native.Nat.{ℕ, suc, ◌+◌, ◌-◌, ◌*◌, ◌<◌, ◌≤◌}
 use native.Mathlib.Omega.{arith}
 use native.Mathlib.Numerals.{add-one}
@@ -25,16 +25,16 @@ and-false false = refl
 -- ---- digits_of: a turn of the loop, and each way out of it
 
 module _ (m n : ℕ) (t : List ℕ) (i : ℕ) where
-  pub digits-end : length t ≤ i → n ≤ m → some n ≡ digits_of m n (drop i t)
+  pub digits-end : length t ≤ i → n ≤ m → Some n ≡ digits_of m n (drop i t)
   digits-end h l = rw (drop_of_length-le t h, le-leb n m l)
 
-  pub digits_low : i < length t → get_or t i 0 < 48 → none ≡ digits_of m n (drop i t)
+  pub digits_low : i < length t → get_or t i 0 < 48 → None ≡ digits_of m n (drop i t)
   digits_low h l = rw (drop-cons t i 0, lt-leb 48 (get_or t i 0) l)
 
-  pub digits-high : i < length t → 48 ≤ get_or t i 0 → 57 < get_or t i 0 → none ≡ digits_of m n (drop i t)
+  pub digits-high : i < length t → 48 ≤ get_or t i 0 → 57 < get_or t i 0 → None ≡ digits_of m n (drop i t)
   digits-high h l g = rw (drop-cons t i 0, le-leb 48 (get_or t i 0) l, lt-leb (get_or t i 0) 57 g)
 
-  pub digits-over : i < length t → 48 ≤ get_or t i 0 → get_or t i 0 ≤ 57 → m < n * 10 + (get_or t i 0 - 48) → none ≡ digits_of m n (drop i t)
+  pub digits-over : i < length t → 48 ≤ get_or t i 0 → get_or t i 0 ≤ 57 → m < n * 10 + (get_or t i 0 - 48) → None ≡ digits_of m n (drop i t)
   digits-over h l g o =
       let v = n * 10 + (get_or t i 0 - 48) in
       rw (drop-cons t i 0, lt-leb (value_from v (drop (suc i) t)) m (omega (arith, value_grows v (drop (suc i) t))), and-false)
@@ -45,12 +45,12 @@ module _ (m n : ℕ) (t : List ℕ) (i : ℕ) where
 
 -- ---- number_of: no digit, a zero in front, and all else
 
-pub number-none : (m : ℕ) (t : List ℕ) → length t ≡ 0 → none ≡ number_of m t
+pub number-none : (m : ℕ) (t : List ℕ) → length t ≡ 0 → None ≡ number_of m t
 unfolding number_of
 number-none m [] h = refl
 number-none m (d ∷ ds) h = absurd (omega arith)
 
-pub number-zero : (m : ℕ) (t : List ℕ) → 1 < length t → get_or t 0 0 ≡ 48 → none ≡ number_of m t
+pub number-zero : (m : ℕ) (t : List ℕ) → 1 < length t → get_or t 0 0 ≡ 48 → None ≡ number_of m t
 unfolding number_of
 number-zero m [] h e = absurd (omega arith)
 number-zero m (d ∷ []) h e = absurd (omega arith)
@@ -70,12 +70,12 @@ number_more m (d ∷ f ∷ ds) h e = rw (ne_eqb d 48 e)
 
 -- ---- the bound of what is read
 
-cond-some : (b l : Bool) (v n : ℕ) → cond (b && l) (some v) none ≡ some n → (l ≡ true) × (v ≡ n)
+cond-some : (b l : Bool) (v n : ℕ) → cond (b && l) (Some v) None ≡ Some n → (l ≡ true) × (v ≡ n)
 cond-some true true v n h = (refl, cc)
 cond-some true false v n h = let z : ◌≡◌ {A = ℕ} 0 1 = cc in absurd (omega arith)
 cond-some false l v n h = let z : ◌≡◌ {A = ℕ} 0 1 = cc in absurd (omega arith)
 
-pub number-le : (m : ℕ) (t : List ℕ) (n : ℕ) → number_of m t ≡ some n → n ≤ m
+pub number-le : (m : ℕ) (t : List ℕ) (n : ℕ) → number_of m t ≡ Some n → n ≤ m
 unfolding number_of
 number-le m t n h =
     let p = cond-some (is_numeral t) (leb (value_from 0 t) m) (value_from 0 t) n h in

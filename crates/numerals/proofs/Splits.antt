@@ -1,8 +1,8 @@
 -- A text split at every byte c is what stands before the first one, and the split of what stands after it. Assumes nothing.
+use Rattle.std.specs.Prelude.{None, Some}
 use mathlib.Core.Path.{◌≡◌, refl}
 use mathlib.Core.Bool.{Bool, true, false}
 use mathlib.Core.List.{List, [], ◌∷◌}
-use mathlib.Core.Option.{none}
 use Prim.Native.Nat.{ℕ, suc, ◌+◌, ◌-◌, ◌<◌, ◌≤◌}
 use native.Mathlib.Omega.{arith}
 use native.Mathlib.Numerals.{add-one}
@@ -65,7 +65,7 @@ pub split-some : (P : List (List ℕ) → Type 0) (c : ℕ) (l : List ℕ) → (
 split-some P c l f = by_order (length l) (until c l) (λ h. rw (split-none c l h) (f l [])) (λ h. rw (split-first c l h) (f _ _))
 
 -- a tag has no fourth part
-pub four-parts : (s n rest : List ℕ) (a : ℕ) → a ≡ until colon rest → a < length rest → none ≡ three_numbers (s ∷ n ∷ split colon rest)
+pub four-parts : (s n rest : List ℕ) (a : ℕ) → a ≡ until colon rest → a < length rest → None ≡ three_numbers (s ∷ n ∷ split colon rest)
 four-parts s n rest a found h =
     rw (split_at colon rest a found h)
-    (split-some (λ ps. none ≡ three_numbers (s ∷ n ∷ take a rest ∷ ps)) colon (drop (a + 1) rest) (λ p ps. refl))
+    (split-some (λ ps. None ≡ three_numbers (s ∷ n ∷ take a rest ∷ ps)) colon (drop (a + 1) rest) (λ p ps. refl))

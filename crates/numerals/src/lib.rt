@@ -4,24 +4,9 @@
 
 ghost use Rattle.std.specs.Prelude.{◌≡◌, ◌∷◌, ◌^◌, ◌≤◌, ◌<◌, length};
 ghost use Rattle.numerals.specs.Numerals.{split, colon, number_of, negated, unsigned, integer_of, joined, three_numbers, tag_of, optional_tag_of};
-ghost use Rattle.numerals.specs.Told.{told_number, told_integer, told_tag, told_optional_tag, Narrow, until, digits_of};
+ghost use Rattle.numerals.specs.Told.{Narrow, until, digits_of};
 
-use records::OptionalNumber;
-use tags::{OptionalTag, Tag};
-
-// A signed number that was read, or that the text is none.
-#[derive(Clone, Copy)]
-enum ReadInteger {
-    NotInteger,
-    Integer(i64),
-}
-
-// What stands where a tag may be absent, or that the text is neither.
-#[derive(Clone, Copy)]
-pub enum ReadTag {
-    NotTag,
-    Read(OptionalTag),
-}
+use tags::Tag;
 
 // How many bytes of s stand before the first c: all of them where there is none.
 pub fn find(s: &[u8], c: u8) -> usize
@@ -43,81 +28,81 @@ fn wide(b: u8) -> u64
     b as u64
 }
 
-fn digits(t: &[u8], most: u64) -> OptionalNumber
-    ensures { told_number result ≡ digits_of most 0 t.now }
+fn digits(t: &[u8], most: u64) -> Option<u64>
+    ensures { result ≡ digits_of most 0 t.now }
 {
     let mut n: u64 = 0;
     let mut i: usize = 0;
     while i < t.len() {
         let b = wide(t[i]);
         if b < 48 {
-            return OptionalNumber::NoNumber;
+            return None;
         }
         if 57 < b {
-            return OptionalNumber::NoNumber;
+            return None;
         }
         let d = b - 48;
         if most < d {
-            return OptionalNumber::NoNumber;
+            return None;
         }
         if (most - d) / 10 < n {
-            return OptionalNumber::NoNumber;
+            return None;
         }
         n = n * 10 + d;
         i += 1;
     }
-    OptionalNumber::Number(n)
+    Some(n)
 }
 
 // The number, at most `most`, that the text spells.
-pub fn number(t: &[u8], most: u64) -> OptionalNumber
-    ensures { told_number result ≡ number_of most t.now }
+pub fn number(t: &[u8], most: u64) -> Option<u64>
+    ensures { result ≡ number_of most t.now }
 {
     if t.len() == 0 {
-        return OptionalNumber::NoNumber;
+        return None;
     }
     if t.len() > 1 {
         if t[0] == 48 {
-            return OptionalNumber::NoNumber;
+            return None;
         }
     }
     digits(t, most)
 }
 
-fn negative(t: &[u8], half: u64) -> ReadInteger
+fn negative(t: &[u8], half: u64) -> Option<i64>
     requires { half ≤ 2 ^ 63 }
-    ensures { told_integer result ≡ negated (number_of half t.now) }
+    ensures { result ≡ negated (number_of half t.now) }
 {
     let n = number(t, half);
     match n {
-        OptionalNumber::NoNumber => ReadInteger::NotInteger,
-        OptionalNumber::Number(k) => {
+        None => None,
+        Some(k) => {
             if k == 0 {
-                ReadInteger::NotInteger
+                None
             } else {
-                ReadInteger::Integer(!((k - 1) as i64))
+                Some(!((k - 1) as i64))
             }
         }
     }
 }
 
-fn positive(t: &[u8], most: u64) -> ReadInteger
+fn positive(t: &[u8], most: u64) -> Option<i64>
     requires { most < 2 ^ 63 }
-    ensures { told_integer result ≡ unsigned (number_of most t.now) }
+    ensures { result ≡ unsigned (number_of most t.now) }
 {
     let n = number(t, most);
     match n {
-        OptionalNumber::NoNumber => ReadInteger::NotInteger,
-        OptionalNumber::Number(k) => ReadInteger::Integer(k as i64),
+        None => None,
+        Some(k) => Some(k as i64),
     }
 }
 
-fn integer(t: &[u8], half: u64) -> ReadInteger
+fn integer(t: &[u8], half: u64) -> Option<i64>
     requires { (0 < half) × (half ≤ 2 ^ 63) }
-    ensures { told_integer result ≡ integer_of half t.now }
+    ensures { result ≡ integer_of half t.now }
 {
     if t.len() == 0 {
-        return ReadInteger::NotInteger;
+        return None;
     }
     if t[0] == 45 {
         return negative(&t[1..], half);
@@ -125,33 +110,33 @@ fn integer(t: &[u8], half: u64) -> ReadInteger
     positive(t, half - 1)
 }
 
-fn joined_tag(s: ReadInteger, n: ReadInteger, m: OptionalNumber) -> OptionalTag
+fn joined_tag(s: Option<i64>, n: Option<i64>, m: Option<u64>) -> Option<Tag>
     requires { Narrow n }
-    ensures { told_tag result ≡ joined (told_integer s) (told_integer n) (told_number m) }
+    ensures { result ≡ joined s n m }
 {
-    let ReadInteger::Integer(seconds) = s else {
-        return OptionalTag::NoTag;
+    let Some(seconds) = s else {
+        return None;
     };
-    let ReadInteger::Integer(z) = n else {
-        return OptionalTag::NoTag;
+    let Some(z) = n else {
+        return None;
     };
-    let OptionalNumber::Number(microstep) = m else {
-        return OptionalTag::NoTag;
+    let Some(microstep) = m else {
+        return None;
     };
     let nanoseconds = z as i32;
-    OptionalTag::At(Tag {
+    Some(Tag {
         seconds,
         nanoseconds,
         microstep,
     })
 }
 
-fn tag_of_parts(s: &[u8], n: &[u8], rest: &[u8]) -> OptionalTag
-    ensures { told_tag result ≡ three_numbers (s.now ∷ n.now ∷ split colon rest.now) }
+fn tag_of_parts(s: &[u8], n: &[u8], rest: &[u8]) -> Option<Tag>
+    ensures { result ≡ three_numbers (s.now ∷ n.now ∷ split colon rest.now) }
 {
     let c = find(rest, 58);
     if c < rest.len() {
-        return OptionalTag::NoTag;
+        return None;
     }
     let seconds = integer(s, 9223372036854775808);
     let nanoseconds = integer(n, 2147483648);
@@ -159,37 +144,37 @@ fn tag_of_parts(s: &[u8], n: &[u8], rest: &[u8]) -> OptionalTag
     joined_tag(seconds, nanoseconds, microstep)
 }
 
-fn tag_after(s: &[u8], rest: &[u8]) -> OptionalTag
-    ensures { told_tag result ≡ three_numbers (s.now ∷ split colon rest.now) }
+fn tag_after(s: &[u8], rest: &[u8]) -> Option<Tag>
+    ensures { result ≡ three_numbers (s.now ∷ split colon rest.now) }
 {
     let b = find(rest, 58);
     if rest.len() <= b {
-        return OptionalTag::NoTag;
+        return None;
     }
     tag_of_parts(s, &rest[..b], &rest[b + 1..])
 }
 
 // The tag that the text spells.
-pub fn tag(t: &[u8]) -> OptionalTag
-    ensures { told_tag result ≡ tag_of t.now }
+pub fn tag(t: &[u8]) -> Option<Tag>
+    ensures { result ≡ tag_of t.now }
 {
     let a = find(t, 58);
     if t.len() <= a {
-        return OptionalTag::NoTag;
+        return None;
     }
     tag_after(&t[..a], &t[a + 1..])
 }
 
 // The tag that the text spells, where `-` says that it is absent.
-pub fn optional_tag(t: &[u8]) -> ReadTag
-    ensures { told_optional_tag result ≡ optional_tag_of t.now }
+pub fn optional_tag(t: &[u8]) -> Option<Option<Tag>>
+    ensures { result ≡ optional_tag_of t.now }
 {
     if octets::same_bytes(t, b"-") {
-        return ReadTag::Read(OptionalTag::NoTag);
+        return Some(None);
     }
     let r = tag(t);
     match r {
-        OptionalTag::NoTag => ReadTag::NotTag,
-        OptionalTag::At(x) => ReadTag::Read(OptionalTag::At(x)),
+        None => None,
+        Some(x) => Some(Some(x)),
     }
 }

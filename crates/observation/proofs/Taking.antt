@@ -1,5 +1,6 @@
 -- The three calls: 27, 8 and 3 by one refusal, then the refusal of an observation, and each way in which a call is taken, from the rule to the state that is
 -- stored. Assumes nothing.
+use Rattle.std.specs.Prelude.{None, Option, Some}
 use mathlib.Core.Path.{◌≡◌, refl, sym, ap, ◌∙◌}
 use mathlib.Core.Bool.{Bool, true, false, cond, ◌&&◌}
 use mathlib.Core.Logic.{◌⊎◌, ⊎_elim}
@@ -11,10 +12,10 @@ use lib.ListN.{length, get_or, set, length-set}
 use borrow.Author.Tests.{eq-eqb, ne_eqb, le-ltb, ltb-true, ltb-false}
 use Rattle.records.specs.Numbers.{observation_number, refusal_number}
 use Rattle.records.specs.declared.Refusal.{Refusal}
-use Rattle.records.specs.declared.Refusal.TheVariants.{Taken, UnsoundState, InvalidObservationTransition}
+use Rattle.records.specs.declared.Refusal.TheVariants.{UnsoundState, InvalidObservationTransition}
 use Rattle.octets.specs.Runs.{put_at}
 use Rattle.actions.specs.Record.{records_of}
-use Rattle.rules.specs.Model.{CoordinationAction, Probe, Park, Recheck, Resume, Stop, Abort, Silent, State, Step, Call, Given, observe, idle, stop, Observation, Verdict, Counts, Ignored, Refused}
+use Rattle.rules.specs.Model.{CoordinationAction, Probe, Park, Recheck, Resume, Stop, Abort, State, Step, Call, Given, observe, idle, stop, Observation, Verdict, Counts, Ignored, Refused}
 use Rattle.rules.specs.Stop.{stop_of}
 use Rattle.rules.specs.Observation.{is_refused, all_observed, observed_already, agreed, tally, observe_by, observation_of, idle_confirmation_of}
 use Rattle.rules.specs.Calls.{facts, plain as bare, own_step, take_step, is_sound, knows_all}
@@ -46,23 +47,23 @@ pub few-of : (s : Held) {b : Bool} → b ≡ (represents s && is_sound (view s))
 few-of s e h = (count-bounds s (is-so (passes s (sym e ∙ h)).sound)).1
 
 -- 27, or where the state passes it the refusal of 8 and 3; k is whether the enclaves are known
-abbrev pub Tried : Given → Held → Bool → Refusal → Type 0
-Tried g s k n = (((represents s && is_sound (view s)) ≡ false) × (n ≡ UnsoundState)) ⊎ (Standing s × First g s true k n)
+abbrev pub Tried : Given → Held → Bool → Option Refusal → Type 0
+Tried g s k n = (((represents s && is_sound (view s)) ≡ false) × (n ≡ (Some UnsoundState))) ⊎ (Standing s × First g s true k n)
 
-module _ {g : Given} {s : Held} {k : Bool} {n : Refusal} where
-  pub tried-refused : Tried g s k n → (room : List ℕ) {r : Called} → (facts g.what).answer (view s) ≡ Silent → (refusal_number n ≡ 0 → ⊥)
-      → r ≡ replied s n Silent 0 → Ends g s r room room
+module _ {g : Given} {s : Held} {k : Bool} {n : Option Refusal} where
+  pub tried-refused : Tried g s k n → (room : List ℕ) {r : Called} → (facts g.what).answer (view s) ≡ None → (refusal_number n ≡ 0 → ⊥)
+      → r ≡ replied s n None 0 → Ends g s r room room
   tried-refused t room silent h e =
       ⊎_elim (λ w. ends-refused g s room silent n (ap refusal_number w.1 ∙ refusal-27 g s w.0) (rw w.1 (omega arith)) e)
       (λ w. ends-first g s w.1 room silent w.0.passing h e) t
 
-  pub tried-none : Tried g s k n → refusal_number n ≡ 0 → Standing s × (56 * (s.count + 2) ≤ g.room) × (k ≡ true) × (n ≡ Taken)
+  pub tried-none : Tried g s k n → refusal_number n ≡ 0 → Standing s × (56 * (s.count + 2) ≤ g.room) × (k ≡ true) × (n ≡ None)
   tried-none t h =
       ⊎_elim (λ w. let z : ◌≡◌ {A = ℕ} 27 0 = sym (ap refusal_number w.1) ∙ h in absurd (omega arith))
       (λ w. let f = first-none g s w.1 h in (w.0, f.0, f.2, w.1.is ∙ rw (le-ltb g.room (56 * (s.count + 2)) f.0, f.2) refl)) t
 
 -- the reply of the values that the ways of a call have met at
-pub reply-is : {s t : Held} {n m : Refusal} {k l : ℕ} → s ≡ t → n ≡ m → k ≡ l → replied s n Silent k ≡ replied t m Silent l
+pub reply-is : {s t : Held} {n m : Option Refusal} {k l : ℕ} → s ≡ t → n ≡ m → k ≡ l → replied s n None k ≡ replied t m None l
 reply-is p q r = rw (p, q, r) refl
 
 -- ---- what is said
@@ -100,11 +101,11 @@ beyond-cells s c o p = let b = beyond-refl s in record {
 }
 
 -- the coordination, in a state t whose cells are stored already
-module _ {c : Call} {s : Held} {room : List ℕ} (n : Enters s room) (a : (facts c).answer (view s) ≡ Silent) (free : 0 ≡ refusal_of (lent (length room) c) s)
+module _ {c : Call} {s : Held} {room : List ℕ} (n : Enters s room) (a : (facts c).answer (view s) ≡ None) (free : 0 ≡ refusal_of (lent (length room) c) s)
     (t : Held) (h : T (represents t)) (rule : State → Step) (step : take_step c (view s) ≡ rule (view t)) (d : Moved) (m : Moves rule t d)
     (b : Beyond s (with_coordination d.coordination t)) where
   moved_ends : {k : ℕ} {r : Called} {after : List ℕ} → k ≡ length (says_of d) → after ≡ put_at room 0 (records_of (says_of d))
-      → r ≡ replied (with_coordination d.coordination t) Taken Silent k → Ends (lent (length room) c) s r room after
+      → r ≡ replied (with_coordination d.coordination t) None None k → Ends (lent (length room) c) s r room after
   moved_ends =
       ends-taken (lent (length room) c) s room a n.stands free (with_coordination d.coordination t) (says_of d) b
       (neat-with-coordination t h d.coordination m.neat) (step ∙ m.step)
@@ -122,7 +123,7 @@ take-idle r m = refl
 module _ {c : Call} {s : Held} {room : List ℕ} (n : Enters s room) (p : facts c ≡ bare false true [] []) (rule : State → Step)
     (step : take_step c (view s) ≡ rule (view s)) (d : Moved) (m : T (represents s) → Moves rule s d) where
   pub bare_ends : {k : ℕ} {r : Called} {after : List ℕ} → k ≡ length (says_of d) → after ≡ put_at room 0 (records_of (says_of d))
-      → r ≡ replied (with_coordination d.coordination s) Taken Silent k → Ends (lent (length room) c) s r room after
+      → r ≡ replied (with_coordination d.coordination s) None None k → Ends (lent (length room) c) s r room after
   bare_ends =
       moved_ends n (rw p refl) (refusal-0 (lent (length room) c) s n.stands.passing (roomy c s (length room) n.large) (rw p refl) (rw p refl) (rw p refl) (rw p refl)) s n.stands.good.neat rule step d
       (m n.stands.good.neat) (beyond-cells s d.coordination s.observation (beyond-refl s).observation)
@@ -156,9 +157,9 @@ module _ {e r : ℕ} {o : Observation} {s : Held} {room : List ℕ} {i : ℕ} (n
   neat = n.enters.stands.good.neat
 
   module _ {v : Verdict} (q : v ≡ judged_by r o s) where
-    pub observe-4 : v ≡ Refused → {x : Called} → x ≡ replied s InvalidObservationTransition Silent 0 → Ends (lent (length room) (observe e r o)) s x room room
+    pub observe-4 : v ≡ Refused → {x : Called} → x ≡ replied s (Some InvalidObservationTransition) None 0 → Ends (lent (length room) (observe e r o)) s x room room
     observe-4 t f =
-        ends-refused (lent (length room) (observe e r o)) s room refl InvalidObservationTransition
+        ends-refused (lent (length room) (observe e r o)) s room refl (Some InvalidObservationTransition)
         (refusal-4 (lent (length room) (observe e r o)) s n.enters.stands.passing (roomy (observe e r o) s (length room) n.enters.large) refl
         (rw (known s e i seat) refl) (wrong-is s neat r o v q e ∙ ap is_refused t)) (omega arith) f
 
@@ -170,7 +171,7 @@ module _ {e r : ℕ} {o : Observation} {s : Held} {room : List ℕ} {i : ℕ} (n
     step_by : (w : Verdict) → v ≡ w → take_step (observe e r o) (view s) ≡ observe_by w e o (view s)
     step_by w t = take-observe e r o (view s) ∙ observation-is s neat r o v q e ∙ ap (λ x. observe_by x e o (view s)) t
 
-    pub observe-ignored : v ≡ Ignored → {x : Called} → x ≡ replied s Taken Silent 0 → Ends (lent (length room) (observe e r o)) s x room room
+    pub observe-ignored : v ≡ Ignored → {x : Called} → x ≡ replied s None None 0 → Ends (lent (length room) (observe e r o)) s x room room
     unfolding observe_by
     observe-ignored t f = ends-still (lent (length room) (observe e r o)) s room refl n.enters.stands (free (ap is_refused t)) (step_by Ignored t) f
 
@@ -190,7 +191,7 @@ module _ {e r : ℕ} {o : Observation} {s : Held} {room : List ℕ} {i k : ℕ} 
   already : observed_already e o (view s) ≡ eqb (get_or s.observation i 0) k
   already = already-is s (neat n.sits) o k n.cell e i (seat n.sits)
 
-  pub observe-repeat : get_or s.observation i 0 ≡ k → {x : Called} → x ≡ replied s Taken Silent 0 → Ends (lent (length room) (observe e r o)) s x room room
+  pub observe-repeat : get_or s.observation i 0 ≡ k → {x : Called} → x ≡ replied s None None 0 → Ends (lent (length room) (observe e r o)) s x room room
   unfolding observe_by
   observe-repeat y f =
       ends-still (lent (length room) (observe e r o)) s room refl n.sits.enters.stands free-counted (step-counted ∙ rw (already ∙ eq-eqb _ _ y) refl) f
@@ -212,7 +213,7 @@ module _ {e r : ℕ} {o : Observation} {s : Held} {room : List ℕ} {i k : ℕ} 
     all-stored : all_observed o (view (stored_at s i k)) ≡ b
     all-stored = all-is (stored_at s i k) neat-stored o k n.cell ∙ sym w
 
-    pub observe-stored : b ≡ false → {x : Called} → x ≡ replied (stored_at s i k) Taken Silent 0 → Ends (lent (length room) (observe e r o)) s x room room
+    pub observe-stored : b ≡ false → {x : Called} → x ≡ replied (stored_at s i k) None None 0 → Ends (lent (length room) (observe e r o)) s x room room
     unfolding tally
     observe-stored u f =
         ends-quiet (lent (length room) (observe e r o)) s room refl n.sits.enters.stands free-counted (stored_at s i k)
@@ -235,7 +236,7 @@ module _ {e r : ℕ} {o : Observation} {s : Held} {room : List ℕ} {i k : ℕ} 
           (past-cleared s.count c (rw (length-set s.observation i k, n.sits.enters.stands.good.sized.observation) few))
 
       pub observe-agreed : {q : ℕ} {x : Called} {after : List ℕ} → q ≡ length (says_of d) → after ≡ put_at room 0 (records_of (says_of d))
-          → x ≡ replied (with_coordination d.coordination (cleared_of (stored_at s i k))) Taken Silent q
+          → x ≡ replied (with_coordination d.coordination (cleared_of (stored_at s i k))) None None q
           → Ends (lent (length room) (observe e r o)) s x room after
       observe-agreed =
           moved_ends n.sits.enters refl free-counted (cleared_of (stored_at s i k)) neat-cleared (agreed o) step-agreed d (m neat-cleared)

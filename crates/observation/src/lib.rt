@@ -17,7 +17,7 @@ ghost use Rattle.calls.specs.Called.{Promised, lent, actions_of};
 ghost use Rattle.observation.specs.Moves.{Moves, unheard_by};
 
 use calls::Called;
-use records::{Answer, CoordinationRevision, EnclaveIndex, Observation, Refusal, Verdict};
+use records::{CoordinationRevision, EnclaveIndex, Observation, Refusal, Verdict};
 use state::{Coordination, FederateCoordinationState};
 
 // What a rule that changes the coordination alone gives, and the number of the action that it says of the revision then, or 0 for none.
@@ -143,13 +143,13 @@ pub fn handle_observation(
     let count = state.count;
     let coordination = state.coordination;
     let mut place: usize = 0;
-    let mut refusal = Refusal::UnsoundState;
+    let mut refusal = Some(Refusal::UnsoundState);
     if soundness::is_sound(state) {
         place = table::find(&state.enclaves, count, enclave);
         refusal = calls::room_first(room.len(), count, calls::tag_first(true, place < count));
     }
     if records::refusal_number(refusal) != 0 {
-        return calls::with_reply(state, refusal, Answer::Silent, 0);
+        return calls::with_reply(state, refusal, None, 0);
     }
     let mut written: usize = 0;
     match judged(
@@ -160,10 +160,10 @@ pub fn handle_observation(
     ) {
         Verdict::Ignored => {}
         Verdict::Refused => {
-            refusal = Refusal::InvalidObservationTransition;
+            refusal = Some(Refusal::InvalidObservationTransition);
         }
         Verdict::Counts => {
-            let cell = records::observation_number(observation) + 1;
+            let cell = u8::from(observation) + 1;
             if state.observation[place] != cell {
                 state.observation[place] = cell;
                 if all_observed(&state.observation, count, cell) {
@@ -176,7 +176,7 @@ pub fn handle_observation(
             }
         }
     }
-    calls::with_reply(state, refusal, Answer::Silent, written)
+    calls::with_reply(state, refusal, None, written)
 }
 
 // Idle confirmation: nothing is running outside, for this revision.
@@ -191,9 +191,9 @@ pub fn handle_idle_confirmation(
     let count = state.count;
     let coordination = state.coordination;
     let refusal = if soundness::is_sound(state) {
-        calls::room_first(room.len(), count, Refusal::Taken)
+        calls::room_first(room.len(), count, None)
     } else {
-        Refusal::UnsoundState
+        Some(Refusal::UnsoundState)
     };
     let mut written: usize = 0;
     if records::refusal_number(refusal) == 0 {
@@ -202,7 +202,7 @@ pub fn handle_idle_confirmation(
         state.coordination = next;
         written = emission::add_kind(room, 0, moved.says, 0, next.revision);
     }
-    calls::with_reply(state, refusal, Answer::Silent, written)
+    calls::with_reply(state, refusal, None, written)
 }
 
 // Stop, once.
@@ -213,9 +213,9 @@ pub fn stop(mut state: FederateCoordinationState, room: &mut [u8]) -> Called
     let count = state.count;
     let coordination = state.coordination;
     let refusal = if soundness::is_sound(state) {
-        calls::room_first(room.len(), count, Refusal::Taken)
+        calls::room_first(room.len(), count, None)
     } else {
-        Refusal::UnsoundState
+        Some(Refusal::UnsoundState)
     };
     let mut written: usize = 0;
     if records::refusal_number(refusal) == 0 {
@@ -224,5 +224,5 @@ pub fn stop(mut state: FederateCoordinationState, room: &mut [u8]) -> Called
         state.coordination = next;
         written = emission::add_kind(room, 0, moved.says, 0, next.revision);
     }
-    calls::with_reply(state, refusal, Answer::Silent, written)
+    calls::with_reply(state, refusal, None, written)
 }

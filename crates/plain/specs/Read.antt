@@ -1,8 +1,9 @@
 -- An action in numbers: what its record is made of. Assumes nothing.
-use Rattle.std.specs.Prelude.{Bool, false, ℕ}
+use Rattle.tags.specs.declared.Tag.{Tag}
+use Rattle.std.specs.Prelude.{Bool, false, ℕ, None, Option, Some}
 use Rattle.records.specs.Numbers.{refusal_number}
 use Rattle.records.specs.declared.Refusal.TheVariants as refusal
-use Rattle.rules.specs.Model.{OptionalTag, NoTag, CoordinationAction}
+use Rattle.rules.specs.Model.{CoordinationAction}
 use Rattle.actions.specs.declared.ReadAction.{ReadAction}
 use Rattle.actions.specs.declared.ReadAction.TheVariants.{Action, NoActionRecord}
 use Rattle.actions.specs.Record.{fields_of}
@@ -10,7 +11,7 @@ use Rattle.plain.specs.declared.ActionNumbers.{ActionNumbers}
 use Rattle.plain.specs.Tags.{tag_numbers}
 
 -- by refusal, kind, enclave, revision or generation, tag, second tag, network input
-abbrev pub numbers_with : ℕ → ℕ → ℕ → ℕ → OptionalTag → OptionalTag → Bool → ActionNumbers
+abbrev pub numbers_with : ℕ → ℕ → ℕ → ℕ → Option Tag → Option Tag → Bool → ActionNumbers
 numbers_with refusal kind enclave number first second network = record {
   refusal = refusal;
   kind = kind;
@@ -23,9 +24,9 @@ numbers_with refusal kind enclave number first second network = record {
 
 abbrev pub action_numbers : CoordinationAction → ActionNumbers
 action_numbers a =
-    numbers_with (refusal_number refusal.Taken) (fields_of a).kind (fields_of a).enclave (fields_of a).number (fields_of a).first (fields_of a).second
+    numbers_with (refusal_number None) (fields_of a).kind (fields_of a).enclave (fields_of a).number (fields_of a).first (fields_of a).second
     (fields_of a).network_input
 
 abbrev pub read_numbers : ReadAction → ActionNumbers
 read_numbers (Action a) = action_numbers a
-read_numbers NoActionRecord = numbers_with (refusal_number refusal.NoActionRecord) 0 0 0 NoTag NoTag false
+read_numbers NoActionRecord = numbers_with (refusal_number (Some refusal.NoActionRecord)) 0 0 0 None None false

@@ -2,8 +2,7 @@
 // out enums and a `Vec`. A kind of call or an observation that has no meaning tells no call; every other function is total and refuses nothing.
 #![tactic(auto)]
 
-ghost use Rattle.std.specs.Prelude.{◌≡◌, false};
-ghost use Rattle.rules.specs.Model.{NoTag, At};
+ghost use Rattle.std.specs.Prelude.{◌≡◌, false, None, Some};
 ghost use Rattle.state.specs.Cells.{enclave_if};
 ghost use Rattle.events.specs.Told.{told_event};
 ghost use Rattle.plain.specs.Tags.{tag_if, tag_numbers};
@@ -15,10 +14,10 @@ use actions::ReadAction;
 use calls::Reply;
 use events::Event;
 use records::{
-    Answer, CoordinationAction, FederateCompletion, FederatePublication, Observation,
-    OptionalEnclave, Refusal,
+    CoordinationAction, FederateCompletion, FederatePublication, Observation,
+    Refusal,
 };
-use tags::{OptionalTag, Tag};
+use tags::Tag;
 
 // A tag that may be absent. An absent one's numbers are not looked at where a host gives them, and are 0 where it gets them.
 #[repr(C)]
@@ -75,39 +74,39 @@ pub struct ActionNumbers {
     pub second: TagNumbers,
 }
 
-fn optional_tag(given: TagNumbers) -> OptionalTag
+fn optional_tag(given: TagNumbers) -> Option<Tag>
     ensures { result ≡ tag_if given }
 {
     if given.present {
         let tag = given.tag;
-        return OptionalTag::At(tag);
+        return Some(tag);
     }
-    OptionalTag::NoTag
+    None
 }
 
 // The numbers of a tag that may be absent.
-pub fn tag_numbers(tag: OptionalTag) -> TagNumbers
+pub fn tag_numbers(tag: Option<Tag>) -> TagNumbers
     ensures { result ≡ tag_numbers tag }
 {
     match tag {
-        OptionalTag::NoTag => TagNumbers {
+        None => TagNumbers {
             present: false,
             tag: Tag::ZERO,
         },
-        OptionalTag::At(t) => TagNumbers {
+        Some(t) => TagNumbers {
             present: true,
             tag: t,
         },
     }
 }
 
-fn optional_enclave(named: bool, enclave: u32) -> OptionalEnclave
+fn optional_enclave(named: bool, enclave: u32) -> Option<u32>
     ensures { result ≡ enclave_if named enclave }
 {
     if named {
-        return OptionalEnclave::Enclave(enclave);
+        return Some(enclave);
     }
-    OptionalEnclave::NoEnclave
+    None
 }
 
 fn observe_event(enclave: u32, revision: u64, observation: u8, listed: &[u32]) -> Event
@@ -156,13 +155,13 @@ pub fn event_of(call: CallNumbers, listed: &[u32]) -> Event
     }
 }
 
-fn answer_number(answer: Answer) -> u8
+fn answer_number(answer: Option<bool>) -> u8
     ensures { result ≡ answer_number answer }
 {
     match answer {
-        Answer::No => 0,
-        Answer::Yes => 1,
-        Answer::Silent => 2,
+        Some(false) => 0,
+        Some(true) => 1,
+        None => 2,
     }
 }
 
@@ -180,7 +179,7 @@ pub fn reply_numbers(reply: Reply) -> ReplyNumbers
 }
 
 fn untagged(kind: u8, enclave: u32, number: u64) -> ActionNumbers
-    ensures { result ≡ numbers_with 0 kind enclave number NoTag NoTag false }
+    ensures { result ≡ numbers_with 0 kind enclave number None None false }
 {
     ActionNumbers {
         refusal: 0,
@@ -188,13 +187,13 @@ fn untagged(kind: u8, enclave: u32, number: u64) -> ActionNumbers
         network_input: false,
         enclave,
         number,
-        first: tag_numbers(OptionalTag::NoTag),
-        second: tag_numbers(OptionalTag::NoTag),
+        first: tag_numbers(None),
+        second: tag_numbers(None),
     }
 }
 
 fn tagged(kind: u8, enclave: u32, tag: Tag, network_input: bool) -> ActionNumbers
-    ensures { result ≡ numbers_with 0 kind enclave 0 (At tag) NoTag network_input }
+    ensures { result ≡ numbers_with 0 kind enclave 0 (Some tag) None network_input }
 {
     ActionNumbers {
         refusal: 0,
@@ -202,8 +201,8 @@ fn tagged(kind: u8, enclave: u32, tag: Tag, network_input: bool) -> ActionNumber
         network_input,
         enclave,
         number: 0,
-        first: tag_numbers(OptionalTag::At(tag)),
-        second: tag_numbers(OptionalTag::NoTag),
+        first: tag_numbers(Some(tag)),
+        second: tag_numbers(None),
     }
 }
 
@@ -224,7 +223,7 @@ fn published(p: FederatePublication) -> ActionNumbers
 }
 
 fn completed(c: FederateCompletion) -> ActionNumbers
-    ensures { result ≡ numbers_with 0 4 0 0 (At c.completed) NoTag c.network_input }
+    ensures { result ≡ numbers_with 0 4 0 0 (Some c.completed) None c.network_input }
 {
     let tag = c.completed;
     tagged(4, 0, tag, c.network_input)
@@ -258,13 +257,13 @@ pub fn read_numbers(found: ReadAction) -> ActionNumbers
     match found {
         ReadAction::Action(action) => action_numbers(action),
         ReadAction::NoActionRecord => ActionNumbers {
-            refusal: records::refusal_number(Refusal::NoActionRecord),
+            refusal: records::refusal_number(Some(Refusal::NoActionRecord)),
             kind: 0,
             network_input: false,
             enclave: 0,
             number: 0,
-            first: tag_numbers(OptionalTag::NoTag),
-            second: tag_numbers(OptionalTag::NoTag),
+            first: tag_numbers(None),
+            second: tag_numbers(None),
         },
     }
 }

@@ -1,5 +1,6 @@
 -- The demands of specs/Demands.antt. A number's digits are digits, spell it, and begin with no zero but that of 0, so they are its numeral; a
 -- digit is neither minus nor colon, so sign and parts are found again. Assumes nothing.
+use Rattle.std.specs.Prelude.{None, Some}
 use mathlib.Core.Path.{◌≡◌, refl, ap, ◌∙◌}
 use mathlib.Core.Bool.{Bool, true, false, cond, ◌&&◌}
 use mathlib.Core.List.{List, [], ◌∷◌, ◌++◌, append_assoc}
@@ -13,7 +14,6 @@ use lib.Signed.{mag}
 use lib.ListN.{length, get_or, length-append, get_or-append}
 use borrow.Author.Tests.{ltb-true, ltb-false, leb-true, le-leb, eq-eqb, ne_eqb}
 use Rattle.tags.specs.declared.Tag.{Tag}
-use Rattle.tags.specs.declared.OptionalTag.TheVariants.{NoTag, At}
 use Rattle.octets.specs.Runs.{same_bytes}
 use Rattle.numerals.specs.Numerals.{text, colon, minus, split, is_digit, all_digits, value_from, is_numeral, number_of, unsigned, integer_of, tag_of, optional_tag_of}
 use Rattle.actions.specs.Demands.{FitsTag}
@@ -173,5 +173,5 @@ no-dash t = same-lengths (tag_text t) (text "-") (λ e. omega (arith, simp lengt
 
 pub optional-tag-reads-back : OptionalTagReadsBack
 unfolding optional_tag_of
-optional-tag-reads-back NoTag f = refl
-optional-tag-reads-back (At t) f = rw (no-dash t, tag-reads-back t f)
+optional-tag-reads-back None f = refl
+optional-tag-reads-back (Some t) f = rw (no-dash t, tag-reads-back t f)

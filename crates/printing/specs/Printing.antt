@@ -1,8 +1,6 @@
 -- Document 01, "Script and its listing": numbers and tags as the listing writes them, in the form that the script reads. Assumes nothing.
-use Rattle.std.specs.Prelude.{ℕ, zero, suc, ◌+◌, ◌/◌, ◌%◌, cond, List, [], ◌∷◌, ◌++◌, ltb, ℤ, pos, negsuc}
+use Rattle.std.specs.Prelude.{ℕ, zero, suc, ◌+◌, ◌/◌, ◌%◌, cond, List, [], ◌∷◌, ◌++◌, ltb, ℤ, pos, negsuc, None, Option, Some}
 use Rattle.tags.specs.declared.Tag.{Tag}
-use Rattle.tags.specs.declared.OptionalTag.{OptionalTag}
-use Rattle.tags.specs.declared.OptionalTag.TheVariants.{NoTag, At}
 use Rattle.numerals.specs.Numerals.{text, colon, minus}
 
 -- n in decimal, in k digits at most
@@ -21,6 +19,6 @@ integer (negsuc n) = minus ∷ decimal (n + 1)
 unfoldable pub tag_text : Tag → List ℕ
 tag_text t = integer t.seconds ++ (colon ∷ []) ++ integer t.nanoseconds ++ (colon ∷ []) ++ decimal t.microstep
 
-abbrev pub optional_tag_text : OptionalTag → List ℕ
-optional_tag_text NoTag = text "-"
-optional_tag_text (At t) = tag_text t
+abbrev pub optional_tag_text : Option Tag → List ℕ
+optional_tag_text None = text "-"
+optional_tag_text (Some t) = tag_text t

@@ -7,7 +7,7 @@ ghost use Rattle.std.specs.Prelude.{◌+◌, ◌^◌, ◌≤◌, ◌<◌, [], �
 ghost use Rattle.printing.specs.Printing.{digits_of, decimal, integer, tag_text, optional_tag_text};
 ghost use Rattle.printing.specs.Runs.{Puts};
 
-use tags::{OptionalTag, Tag};
+use tags::Tag;
 
 // Puts the run.
 pub fn put_text(out: &mut [u8], at: usize, run: &[u8]) -> usize
@@ -75,12 +75,12 @@ pub fn put_tag(out: &mut [u8], at: usize, tag: Tag) -> usize
 }
 
 // Puts the tag, or `-` where it is absent.
-pub fn put_optional_tag(out: &mut [u8], at: usize, tag: OptionalTag) -> usize
+pub fn put_optional_tag(out: &mut [u8], at: usize, tag: Option<Tag>) -> usize
     requires { at + 64 ≤ length out.old }
     ensures { Puts out.old at (optional_tag_text tag) 64 result out.new }
 {
     match tag {
-        OptionalTag::NoTag => put_byte(out, at, b'-'),
-        OptionalTag::At(present) => put_tag(out, at, present),
+        None => put_byte(out, at, b'-'),
+        Some(present) => put_tag(out, at, present),
     }
 }

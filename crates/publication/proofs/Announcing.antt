@@ -1,5 +1,6 @@
 -- What `announce` answers is Publish's second half in every state that has what it was given. All published and the least candidate are walks over the
 -- columns; the least candidate is one that a cell holds, so that its own cell holds it; the phase is told by its number. Assumes nothing.
+use Rattle.std.specs.Prelude.{None, Option, Some}
 use mathlib.Core.Path.{◌≡◌, refl, sym, ap, ◌∙◌}
 use mathlib.Core.Bool.{Bool, true, false, cond}
 use mathlib.Core.List.{List, [], ◌∷◌}
@@ -8,7 +9,7 @@ use lib.Dec.{T, eqb}
 use lib.IntN.{ℤ}
 use lib.ListN.{get_or}
 use Rattle.records.specs.Numbers.{phase_number}
-use Rattle.rules.specs.Model.{At, CoordinatedTermination, KeepAlive, LifecyclePolicy, NoTag, OptionalTag, Probe, Tag, TerminateWhenIdle}
+use Rattle.rules.specs.Model.{CoordinatedTermination, KeepAlive, LifecyclePolicy, Probe, Tag, TerminateWhenIdle}
 use Rattle.rules.specs.Publication.{announce, idle_phase, idle_probe, least_candidate}
 use Rattle.rules.proofs.Invariants.{and_intro}
 use Rattle.state.specs.declared.FederateCoordinationState.{FederateCoordinationState as Held}
@@ -26,11 +27,11 @@ use Rattle.publication.specs.Announce.{Announces, Has, announcement, dropped_if,
 
 -- ---- the phase by its number
 
-probes : (m : OptionalTag) (l : LifecyclePolicy) (r : ℕ) → cond (eqb (phase_number (idle_phase m l)) 1) (Probe r ∷ []) [] ≡ idle_probe m l r
-probes NoTag KeepAlive r = refl
-probes NoTag TerminateWhenIdle r = refl
-probes NoTag CoordinatedTermination r = refl
-probes (At t) l r = refl
+probes : (m : Option Tag) (l : LifecyclePolicy) (r : ℕ) → cond (eqb (phase_number (idle_phase m l)) 1) (Probe r ∷ []) [] ≡ idle_probe m l r
+probes None KeepAlive r = refl
+probes None TerminateWhenIdle r = refl
+probes None CoordinatedTermination r = refl
+probes (Some t) l r = refl
 
 -- ---- the parts once all are published
 
@@ -57,7 +58,7 @@ dropped-neat true g h =
     gate-whole (dropped_of g) (record {
       input_horizon = (gate-parts g h).input_horizon;
       granted = (gate-parts g h).granted;
-      stored = neat-cell NoTag tt;
+      stored = neat-cell None tt;
       revision = tt;
     })
 
@@ -86,7 +87,7 @@ module _ (s : Held) (whole : T (represents s)) where
     });
   }
     where
-      cells : OptionalTag
+      cells : Option Tag
       cells = least_from (λ j. optional_of (tag_in s.seconds s.nanoseconds s.microsteps j)) 0 s.count
 
       keeps : optional_of (cell_of cells) ≡ cells

@@ -1,15 +1,15 @@
 -- What `publish` decides is Publish's rule, return by return. The code compares cells where the rules compare optional tags, which is the same for a neat
 -- cell and a proper tag; a revision's clearing of observations commutes with the store. Assumes nothing.
+use Rattle.std.specs.Prelude.{None, Option, Some}
 use mathlib.Core.Path.{◌≡◌, refl, sym, ap, ◌∙◌, subst}
 use mathlib.Core.Bool.{Bool, true, false, not, cond, ◌||◌}
 use mathlib.Core.List.{List, [], ◌∷◌, map}
-use mathlib.Core.Option.{some}
 use Prim.Native.Nat.{ℕ}
 use lib.Dec.{T, eqb}
 use borrow.Author.Tests.{ne_eqb}
 use Rattle.tags.specs.Tags.{◌≤ₜ◌, ◌≡ₜ◌, proper_if_present, same_optional}
 use Rattle.tags.proofs.Order.{≤ₜ-anti}
-use Rattle.rules.specs.Model.{At, NoTag, OptionalTag, Participant, State, Tag}
+use Rattle.rules.specs.Model.{Participant, State, Tag}
 use Rattle.rules.specs.Set.{with_candidate, with_participants, with_published}
 use Rattle.rules.specs.Walk.{at, emit, only}
 use Rattle.rules.specs.Publication.{enlist, forget, publish_by, publish_of, repeated, revise_of, store}
@@ -54,14 +54,14 @@ absent-same : (absent ≡ₜ absent) ≡ true
 unfolding ◌≤ₜ◌
 absent-same = refl
 
-same-cell : (a : Tag) (m : OptionalTag) → T (is_neat a) → T (proper_if_present m) → same_optional (optional_of a) m ≡ (a ≡ₜ cell_of m)
+same-cell : (a : Tag) (m : Option Tag) → T (is_neat a) → T (proper_if_present m) → same_optional (optional_of a) m ≡ (a ≡ₜ cell_of m)
 same-cell a m h k = go (is_absent a) refl m k
   where
-    go : (x : Bool) → is_absent a ≡ x → (m : OptionalTag) → T (proper_if_present m) → same_optional (cond x NoTag (At a)) m ≡ (a ≡ₜ cell_of m)
-    go true e NoTag k = rw (same-absent a e h) (sym absent-same)
-    go true e (At t) k = sym (apart a t (λ z. cc (proper-present t k)))
-    go false e NoTag k = sym (apart a absent (λ z. cc))
-    go false e (At t) k = refl
+    go : (x : Bool) → is_absent a ≡ x → (m : Option Tag) → T (proper_if_present m) → same_optional (cond x None (Some a)) m ≡ (a ≡ₜ cell_of m)
+    go true e None k = rw (same-absent a e h) (sym absent-same)
+    go true e (Some t) k = sym (apart a t (λ z. cc (proper-present t k)))
+    go false e None k = sym (apart a absent (λ z. cc))
+    go false e (Some t) k = refl
 
 -- ---- the candidate stored
 
@@ -81,10 +81,10 @@ listed p t c k = record {
   first_failure = p.first_failure;
 }
 
-stored_row : (m : OptionalTag) → T (proper_if_present m) → (p : Participant) → with_candidate (optional_of (cell_of m)) (with_published true p) ≡ store m p
-stored_row m h p = ap (λ (c : OptionalTag). with_candidate c (with_published true p)) (optional-cell m h)
+stored_row : (m : Option Tag) → T (proper_if_present m) → (p : Participant) → with_candidate (optional_of (cell_of m)) (with_published true p) ≡ store m p
+stored_row m h p = ap (λ (c : Option Tag). with_candidate c (with_published true p)) (optional-cell m h)
 
-store-forget : (e : ℕ) (m : OptionalTag) (ps : List Participant) → map (at e (store m)) (map forget ps) ≡ map forget (map (at e (store m)) ps)
+store-forget : (e : ℕ) (m : Option Tag) (ps : List Participant) → map (at e (store m)) (map forget ps) ≡ map forget (map (at e (store m)) ps)
 store-forget e m [] = refl
 store-forget e m (p ∷ ps) = rw (first (eqb p.index e), store-forget e m ps) refl
   where
@@ -98,13 +98,13 @@ store-forget e m (p ∷ ps) = rw (first (eqb p.index e), store-forget e m ps) re
 abbrev Runs : Parts → Type 0
 Runs p = p.coordination.phase ≡ 6 → ⊥
 
-abbrev alike : OptionalTag → Parts → Bool
+abbrev alike : Option Tag → Parts → Bool
 alike m p = p.row.candidate ≡ₜ cell_of m
 
-abbrev first : OptionalTag → Parts → Decided
+abbrev first : Option Tag → Parts → Decided
 first m p = record { parts = listed p (cell_of m) p.coordination p.completion; forgets = false; next = Announces false }
 
-abbrev changed : OptionalTag → Parts → Decided
+abbrev changed : Option Tag → Parts → Decided
 changed m p = record {
   parts = listed p (cell_of m) (revised_of p.coordination) (unprobed_of p.completion);
   forgets = true;
@@ -115,20 +115,20 @@ changed m p = record {
 abbrev Repeats : ℕ → ℕ → Parts → Type 0
 Repeats k e p = repeated (phase_of p.coordination.phase) p.coordination.revision ≡ said_of k e p.coordination.revision
 
-enlist-is : (e : ℕ) (m : OptionalTag) (resume : Bool) (v : State) → enlist e m resume v ≡ conclusion e (Announces resume) (only e (store m) v)
+enlist-is : (e : ℕ) (m : Option Tag) (resume : Bool) (v : State) → enlist e m resume v ≡ conclusion e (Announces resume) (only e (store m) v)
 unfolding enlist conclusion
 enlist-is e m resume v = refl
 
-module _ (m : OptionalTag) (e : ℕ) (s : Held) (i : ℕ) (g : Good s) (d : Seated s e i) where
+module _ (m : Option Tag) (e : ℕ) (s : Held) (i : ℕ) (g : Good s) (d : Seated s e i) where
   stopped-step : s.coordination.phase ≡ 6 → Goes (publish_of e m) e (saying 0) s i
   unfolding publish_of
   stopped-step h = goes-nothing (publish_of e m) e s i g d (rw (stopped-is s g.neat ∙ ap (λ n. eqb n 6) h) refl)
 
-  running-step : Runs (parts_of s i) → publish_of e m (view s) ≡ publish_by e m (view s) (some (row_at s i))
+  running-step : Runs (parts_of s i) → publish_of e m (view s) ≡ publish_by e m (view s) (Some (row_at s i))
   unfolding publish_of
   running-step h = rw (stopped-is s g.neat ∙ ne_eqb s.coordination.phase 6 h, found s e i d) refl
 
-module _ (m : OptionalTag) (e : ℕ) (s : Held) (i : ℕ) (g : Good s) (d : Seated s e i) (proper : T (proper_if_present m)) (runs : Runs (parts_of s i)) where
+module _ (m : Option Tag) (e : ℕ) (s : Held) (i : ℕ) (g : Good s) (d : Seated s e i) (proper : T (proper_if_present m)) (runs : Runs (parts_of s i)) where
   asked-same : same_optional (optional_of (tag_at s i)) m ≡ alike m (parts_of s i)
   asked-same = same-cell (tag_at s i) m (place-parts s i (neat-place s g.neat i d.within)).candidate proper
 
@@ -137,7 +137,7 @@ module _ (m : OptionalTag) (e : ℕ) (s : Held) (i : ℕ) (g : Good s) (d : Seat
   again-step same was k says =
       running-step m e s i g d runs ∙ repeats ∙ ap (λ (z : State). emit (said_of k e z.revision) z) (sym (view-kept s e i g d))
     where
-      repeats : publish_by e m (view s) (some (row_at s i)) ≡ emit (said_of k e s.coordination.revision) (view s)
+      repeats : publish_by e m (view s) (Some (row_at s i)) ≡ emit (said_of k e s.coordination.revision) (view s)
       repeats = rw (asked-same ∙ same, was, says) refl
 
   first_step : alike m (parts_of s i) ≡ true → (parts_of s i).row.published ≡ false → Goes (publish_of e m) e (first m) s i
@@ -160,10 +160,10 @@ module _ (m : OptionalTag) (e : ℕ) (s : Held) (i : ℕ) (g : Good s) (d : Seat
 
 -- ---- each return, of the parts
 
-pub publish-stopped : (p : Parts) (m : OptionalTag) → p.coordination.phase ≡ 6 → (e : ℕ) → T (proper_if_present m) → Decides (publish_of e m) e p (saying 0 p)
+pub publish-stopped : (p : Parts) (m : Option Tag) → p.coordination.phase ≡ 6 → (e : ℕ) → T (proper_if_present m) → Decides (publish_of e m) e p (saying 0 p)
 publish-stopped p m h e proper = decides-by (publish_of e m) e (λ z. z.coordination.phase ≡ 6) (saying 0) (stopped-step m e) p h
 
-module _ (p : Parts) (m : OptionalTag) (t : Tag) (x : Bool) (runs : Runs p) (cell : t ≡ cell_of m) (asked : x ≡ (p.row.candidate ≡ₜ t)) where
+module _ (p : Parts) (m : Option Tag) (t : Tag) (x : Bool) (runs : Runs p) (cell : t ≡ cell_of m) (asked : x ≡ (p.row.candidate ≡ₜ t)) where
   made : (b : Bool) → x ≡ b → alike m p ≡ b
   made b h = rw (← cell) (sym asked ∙ h)
 
@@ -190,7 +190,7 @@ module _ (p : Parts) (m : OptionalTag) (t : Tag) (x : Bool) (runs : Runs p) (cel
 
 -- ---- the parts stay neat
 
-neat-listed : (p : Parts) (m : OptionalTag) (c : Coordination) (k : Completion) → T (proper_if_present m) → T (neat_parts p)
+neat-listed : (p : Parts) (m : Option Tag) (c : Coordination) (k : Completion) → T (proper_if_present m) → T (neat_parts p)
     → T (neat_coordination c) → T (neat_completion k) → T (neat_parts (listed p (cell_of m) c k))
 neat-listed p m c k proper h a b =
     let v = parts-of p h in
@@ -199,7 +199,7 @@ neat-listed p m c k proper h a b =
     let row = row-whole next.row (record { candidate = neat-cell m proper; completed = w.completed; observed = w.observed }) in
     parts_whole next (record { row = row; coordination = a; completion = b; failure = v.failure })
 
-module _ (p : Parts) (m : OptionalTag) (t : Tag) (cell : t ≡ cell_of m) (proper : T (proper_if_present m)) (h : T (neat_parts p)) where
+module _ (p : Parts) (m : Option Tag) (t : Tag) (cell : t ≡ cell_of m) (proper : T (proper_if_present m)) (h : T (neat_parts p)) where
   pub neat-first : T (neat_parts (listed p t p.coordination p.completion))
   neat-first = let v = parts-of p h in rw cell (neat-listed p m p.coordination p.completion proper h v.coordination v.completion)
 

@@ -1,10 +1,10 @@
 -- Which parts are neat, in named conjuncts, and the parts of a revision. Assumes nothing.
+use Rattle.std.specs.Prelude.{None}
 use mathlib.Core.Logic.Iff
 use mathlib.Core.Logic.{◌↔◌}
 use mathlib.Core.Bool.{Bool, ◌&&◌}
 use lib.Dec.{T}
 use Rattle.tags.specs.Tags.{◌≤ₜ◌}
-use Rattle.rules.specs.Model.{NoTag}
 use Rattle.rules.proofs.Lists.{and_left, and_right}
 use Rattle.rules.proofs.Invariants.{and_intro}
 use Rattle.state.specs.declared.Coordination.{Coordination}
@@ -58,4 +58,4 @@ neat-revised c = tt
 pub neat-unprobed : (k : Completion) → T (neat_completion k) → T (neat_completion (unprobed_of k))
 neat-unprobed k h =
     let v = completion-parts k h in
-    completion-whole (unprobed_of k) (record { frontier = v.frontier; probe = neat-cell NoTag tt; first = v.first; last = v.last; both = v.both })
+    completion-whole (unprobed_of k) (record { frontier = v.frontier; probe = neat-cell None tt; first = v.first; last = v.last; both = v.both })

@@ -15,7 +15,7 @@ ghost use Rattle.publication.specs.Announce.{dropped_of, Has, Announces};
 ghost use Rattle.publication.specs.Revise.{revised_of, unprobed_of};
 
 use state::{ABSENT, Completion, Coordination, Decided, Gate, Next, Parts};
-use tags::{OptionalTag, Tag};
+use tags::Tag;
 
 #[derive(Clone, Copy)]
 pub struct Announced {
@@ -102,7 +102,7 @@ fn repeated_kind(phase: u8) -> u8
 }
 
 // Publish's first half.
-pub fn publish(parts: Parts, next_event: OptionalTag) -> Decided
+pub fn publish(parts: Parts, next_event: Option<Tag>) -> Decided
     ensures step { (e : ℕ) → T (proper_if_present next_event) → Decides (publish_of e next_event) e parts result }
     ensures neat { T (proper_if_present next_event) → T (neat_parts parts) → T (neat_parts result.parts) }
 {

@@ -1,5 +1,6 @@
 -- What a query promises, from its parts: whether the state passes 27 and what was asked for. By the definitions, with each test's value put in.
 -- Assumes nothing.
+use Rattle.std.specs.Prelude.{None, Option, Some}
 use mathlib.Core.Path.{◌≡◌, refl, sym, ap, ◌∙◌, subst, subst₂}
 use mathlib.Core.Bool.{Bool, true, false, not, cond, ◌&&◌}
 use Prim.Native.Nat.{ℕ, ◌≤◌, ◌<◌}
@@ -9,8 +10,8 @@ use lib.Dec.{T, eqb}
 use lib.ListN.{get_or}
 use Rattle.tags.specs.Tags.{is_present}
 use Rattle.records.specs.declared.Refusal.{Refusal}
-use Rattle.records.specs.declared.Refusal.TheVariants.{Taken, UnsoundState}
-use Rattle.rules.specs.Model.{Tag, OptionalTag, NoTag, At, Stopped}
+use Rattle.records.specs.declared.Refusal.TheVariants.{UnsoundState}
+use Rattle.rules.specs.Model.{Tag, Stopped}
 use Rattle.rules.specs.Acquisition.{is_pending}
 use Rattle.rules.specs.Calls.{is_sound}
 use Rattle.rules.specs.Queries.{candidate_of, candidate_by}
@@ -21,18 +22,17 @@ use Rattle.state.specs.Walk.{place_from}
 use Rattle.state.specs.Cells.{is_absent, optional_of, phase_of, publication_if}
 use Rattle.state.specs.View.{tag_at, view, represents}
 use Rattle.state.proofs.Rows.{length-rows, seated, found, unknown}
-use Rattle.queries.specs.declared.FoundCandidate.TheVariants.{Unknown, Known}
-use Rattle.queries.specs.Asked.{passes, answer_if, ask_held, Answers, candidate_as}
+use Rattle.queries.specs.Asked.{passes, answer_if, ask_held, Answers}
 
 module _ {A : Type 0} (refused : A) {p b : Bool} (e : b ≡ p) where
-  pub asked : {x y : A} (n : Refusal) (a : A) → x ≡ y → Answers (answer_if b refused x) n a → Answers (answer_if p refused y) n a
+  pub asked : {x y : A} (n : Option Refusal) (a : A) → x ≡ y → Answers (answer_if b refused x) n a → Answers (answer_if p refused y) n a
   asked n a f h = subst₂ (λ b x. Answers (answer_if b refused x) n a) e f h
 
-  pub asked-refused : (y : A) → b ≡ false → Answers (answer_if p refused y) UnsoundState refused
-  asked-refused y t = subst (λ b. Answers (answer_if b refused y) UnsoundState refused) (sym t ∙ e) (record { refused = refl; answered = refl })
+  pub asked-refused : (y : A) → b ≡ false → Answers (answer_if p refused y) (Some UnsoundState) refused
+  asked-refused y t = subst (λ b. Answers (answer_if b refused y) (Some UnsoundState) refused) (sym t ∙ e) (record { refused = refl; answered = refl })
 
-  pub asked-taken : {a y : A} → b ≡ true → a ≡ y → Answers (answer_if p refused y) Taken a
-  asked-taken {a = a} {y = y} t q = subst (λ b. Answers (answer_if b refused y) Taken a) (sym t ∙ e) (record { refused = refl; answered = q })
+  pub asked-taken : {a y : A} → b ≡ true → a ≡ y → Answers (answer_if p refused y) None a
+  asked-taken {a = a} {y = y} t q = subst (λ b. Answers (answer_if b refused y) None a) (sym t ∙ e) (record { refused = refl; answered = q })
 
 -- ---- the cells
 
@@ -40,7 +40,7 @@ pub settled-if : {pending settled : Bool} (r : ℕ) (n h t : Tag) → pending �
     → settled ≡ (not (is_pending (publication_if pending r n h)) && not (is_present (optional_of t)))
 settled-if r n h t e q = rw e (q ∙ go (is_absent t))
   where
-    go : (b : Bool) → b ≡ not (is_present (cond b NoTag (At t)))
+    go : (b : Bool) → b ≡ not (is_present (cond b None (Some t)))
     go true = refl
     go false = refl
 
@@ -57,11 +57,11 @@ module _ (s : Held) {b : Bool} (p : b ≡ passes s) (t : b ≡ true) where
   few = let z = (sound-number (view s) sound).1 in let n = length-rows s in omega arith
 
   module _ (e i : ℕ) (q : i ≡ place_from (λ j. eqb (get_or s.enclaves j 0) e) 0 s.count) where
-    pub candidate-unknown : s.count ≤ i → Answers (ask_held Unknown (λ m. candidate_as (candidate_of e m)) s) Taken Unknown
+    pub candidate-unknown : s.count ≤ i → Answers (ask_held None (λ m. (candidate_of e m)) s) None None
     candidate-unknown l =
-        asked-taken Unknown p t (ap (λ o. candidate_as (candidate_by o)) (sym (unknown s e i q l)))
+        asked-taken None p t (ap (λ o. (candidate_by o)) (sym (unknown s e i q l)))
 
-    pub candidate-known : (m : OptionalTag) → i < s.count → m ≡ optional_of (tag_at s i) → Answers (ask_held Unknown (λ m. candidate_as (candidate_of e m)) s) Taken (Known m)
+    pub candidate-known : (m : Option Tag) → i < s.count → m ≡ optional_of (tag_at s i) → Answers (ask_held None (λ m. (candidate_of e m)) s) None (Some m)
     candidate-known m l h =
-        asked-taken Unknown p t
-        (ap Known h ∙ ap (λ o. candidate_as (candidate_by o)) (sym (found s e i (seated s e i (sound-ascending (view s) sound) q l))))
+        asked-taken None p t
+        (ap Some h ∙ ap (λ o. (candidate_by o)) (sym (found s e i (seated s e i (sound-ascending (view s) sound) q l))))

@@ -1,16 +1,14 @@
 -- What a query on the state held promises, in the words of the rules (rules, Queries): 27 for what no call takes, else the query's answer.
 -- Assumes nothing.
-use Rattle.std.specs.Prelude.{◌≡◌, Bool, cond, ◌&&◌}
-use Rattle.std.proofs.Math.Option.{Option, none, some}
+use Rattle.tags.specs.declared.Tag.{Tag}
+use Rattle.std.specs.Prelude.{◌≡◌, Bool, cond, ◌&&◌, None, Option, Some}
 use Rattle.records.specs.Numbers.{refusal_number}
 use Rattle.records.specs.declared.Refusal.{Refusal}
-use Rattle.rules.specs.Model.{OptionalTag, State}
+use Rattle.rules.specs.Model.{State}
 use Rattle.rules.specs.Calls.{is_sound}
 use Rattle.rules.specs.Queries.{Asked}
 use Rattle.state.specs.declared.FederateCoordinationState.{FederateCoordinationState as Held}
 use Rattle.state.specs.View.{view, represents}
-use Rattle.queries.specs.declared.FoundCandidate.{FoundCandidate}
-use Rattle.queries.specs.declared.FoundCandidate.TheVariants.{Unknown, Known}
 
 -- 27 also for a value that represents no state of document 01
 abbrev pub passes : Held → Bool
@@ -25,11 +23,7 @@ abbrev pub ask_held : {A : Type 0} → A → (State → A) → Held → Asked A
 ask_held refused query s = answer_if (passes s) refused (query (view s))
 
 -- this refusal and this answer are those asked for
-pub record Answers {A : Type 0} (asked : Asked A) (refusal : Refusal) (answer : A) : Type 0 where
+pub record Answers {A : Type 0} (asked : Asked A) (refusal : Option Refusal) (answer : A) : Type 0 where
   pub refused : refusal_number refusal ≡ asked.refusal
   pub answered : answer ≡ asked.answer
 
--- "`candidate` (unknown told apart from none)"
-abbrev pub candidate_as : Option OptionalTag → FoundCandidate
-candidate_as none = Unknown
-candidate_as (some t) = Known t

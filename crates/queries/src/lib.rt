@@ -3,78 +3,70 @@
 // 0, Active, no, absent or unknown.
 #![tactic(auto)]
 
-ghost use Rattle.std.specs.Prelude.{◌≡◌, false, cond, not, ◌&&◌, eqb};
+ghost use Rattle.std.specs.Prelude.{◌≡◌, false, cond, not, ◌&&◌, eqb, None, Some};
 ghost use Rattle.tags.specs.Tags.{is_present};
 ghost use Rattle.records.specs.Numbers.{phase_number};
-ghost use Rattle.rules.specs.Model.{NoTag, NoNumber, Number, NoEnclave, NonePending, Active};
+ghost use Rattle.rules.specs.Model.{Active};
 ghost use Rattle.rules.specs.Walk.{is_stopped};
 ghost use Rattle.rules.specs.Acquisition.{is_pending};
 ghost use Rattle.rules.specs.Queries.{is_settled, idle_confirmation_revision, candidate_of};
 ghost use Rattle.state.specs.Cells.{optional_of, enclave_if, phase_of, publication_if};
-ghost use Rattle.queries.specs.Asked.{answer_if, ask_held, Answers, candidate_as};
-ghost use Rattle.queries.specs.declared.FoundCandidate.TheVariants.{Unknown};
+ghost use Rattle.queries.specs.Asked.{answer_if, ask_held, Answers};
 
 use records::{
-    CoordinationPhase, FederatePublication, OptionalEnclave, OptionalNumber, OptionalPublication,
+    CoordinationPhase, FederatePublication, 
     Refusal,
 };
 use state::{Completion, Coordination, FederateCoordinationState};
-use tags::{OptionalTag, Tag};
-
-// The candidate of an enclave, unknown where it is no participant.
-#[derive(Clone, Copy)]
-pub enum FoundCandidate {
-    Unknown,
-    Known(OptionalTag),
-}
+use tags::Tag;
 
 // What a query answers: `Taken` or why it was refused, and what was asked for.
 #[derive(Clone, Copy)]
 pub struct NumberAnswer {
-    pub refusal: Refusal,
+    pub refusal: Option<Refusal>,
     pub answer: u64,
 }
 
 #[derive(Clone, Copy)]
 pub struct BoolAnswer {
-    pub refusal: Refusal,
+    pub refusal: Option<Refusal>,
     pub answer: bool,
 }
 
 #[derive(Clone, Copy)]
 pub struct PhaseAnswer {
-    pub refusal: Refusal,
+    pub refusal: Option<Refusal>,
     pub answer: CoordinationPhase,
 }
 
 #[derive(Clone, Copy)]
 pub struct EnclaveAnswer {
-    pub refusal: Refusal,
-    pub answer: OptionalEnclave,
+    pub refusal: Option<Refusal>,
+    pub answer: Option<u32>,
 }
 
 #[derive(Clone, Copy)]
 pub struct TagAnswer {
-    pub refusal: Refusal,
-    pub answer: OptionalTag,
+    pub refusal: Option<Refusal>,
+    pub answer: Option<Tag>,
 }
 
 #[derive(Clone, Copy)]
 pub struct RevisionAnswer {
-    pub refusal: Refusal,
-    pub answer: OptionalNumber,
+    pub refusal: Option<Refusal>,
+    pub answer: Option<u64>,
 }
 
 #[derive(Clone, Copy)]
 pub struct PublicationAnswer {
-    pub refusal: Refusal,
-    pub answer: OptionalPublication,
+    pub refusal: Option<Refusal>,
+    pub answer: Option<FederatePublication>,
 }
 
 #[derive(Clone, Copy)]
 pub struct CandidateAnswer {
-    pub refusal: Refusal,
-    pub answer: FoundCandidate,
+    pub refusal: Option<Refusal>,
+    pub answer: Option<Option<Tag>>,
 }
 
 fn number_answer(sound: bool, answer: u64) -> NumberAnswer
@@ -82,12 +74,12 @@ fn number_answer(sound: bool, answer: u64) -> NumberAnswer
 {
     if sound {
         return NumberAnswer {
-            refusal: Refusal::Taken,
+            refusal: None,
             answer,
         };
     }
     NumberAnswer {
-        refusal: Refusal::UnsoundState,
+        refusal: Some(Refusal::UnsoundState),
         answer: 0,
     }
 }
@@ -97,12 +89,12 @@ fn bool_answer(sound: bool, answer: bool) -> BoolAnswer
 {
     if sound {
         return BoolAnswer {
-            refusal: Refusal::Taken,
+            refusal: None,
             answer,
         };
     }
     BoolAnswer {
-        refusal: Refusal::UnsoundState,
+        refusal: Some(Refusal::UnsoundState),
         answer: false,
     }
 }
@@ -112,73 +104,73 @@ fn phase_answer(sound: bool, answer: CoordinationPhase) -> PhaseAnswer
 {
     if sound {
         return PhaseAnswer {
-            refusal: Refusal::Taken,
+            refusal: None,
             answer,
         };
     }
     PhaseAnswer {
-        refusal: Refusal::UnsoundState,
+        refusal: Some(Refusal::UnsoundState),
         answer: CoordinationPhase::Active,
     }
 }
 
-fn enclave_answer(sound: bool, answer: OptionalEnclave) -> EnclaveAnswer
-    ensures { Answers (answer_if sound NoEnclave answer) result.refusal result.answer }
+fn enclave_answer(sound: bool, answer: Option<u32>) -> EnclaveAnswer
+    ensures { Answers (answer_if sound None answer) result.refusal result.answer }
 {
     if sound {
         return EnclaveAnswer {
-            refusal: Refusal::Taken,
+            refusal: None,
             answer,
         };
     }
     EnclaveAnswer {
-        refusal: Refusal::UnsoundState,
-        answer: OptionalEnclave::NoEnclave,
+        refusal: Some(Refusal::UnsoundState),
+        answer: None,
     }
 }
 
-fn tag_answer(sound: bool, answer: OptionalTag) -> TagAnswer
-    ensures { Answers (answer_if sound NoTag answer) result.refusal result.answer }
+fn tag_answer(sound: bool, answer: Option<Tag>) -> TagAnswer
+    ensures { Answers (answer_if sound None answer) result.refusal result.answer }
 {
     if sound {
         return TagAnswer {
-            refusal: Refusal::Taken,
+            refusal: None,
             answer,
         };
     }
     TagAnswer {
-        refusal: Refusal::UnsoundState,
-        answer: OptionalTag::NoTag,
+        refusal: Some(Refusal::UnsoundState),
+        answer: None,
     }
 }
 
-fn revision_answer(sound: bool, answer: OptionalNumber) -> RevisionAnswer
-    ensures { Answers (answer_if sound NoNumber answer) result.refusal result.answer }
+fn revision_answer(sound: bool, answer: Option<u64>) -> RevisionAnswer
+    ensures { Answers (answer_if sound None answer) result.refusal result.answer }
 {
     if sound {
         return RevisionAnswer {
-            refusal: Refusal::Taken,
+            refusal: None,
             answer,
         };
     }
     RevisionAnswer {
-        refusal: Refusal::UnsoundState,
-        answer: OptionalNumber::NoNumber,
+        refusal: Some(Refusal::UnsoundState),
+        answer: None,
     }
 }
 
-fn publication_answer(sound: bool, answer: OptionalPublication) -> PublicationAnswer
-    ensures { Answers (answer_if sound NonePending answer) result.refusal result.answer }
+fn publication_answer(sound: bool, answer: Option<FederatePublication>) -> PublicationAnswer
+    ensures { Answers (answer_if sound None answer) result.refusal result.answer }
 {
     if sound {
         return PublicationAnswer {
-            refusal: Refusal::Taken,
+            refusal: None,
             answer,
         };
     }
     PublicationAnswer {
-        refusal: Refusal::UnsoundState,
-        answer: OptionalPublication::NonePending,
+        refusal: Some(Refusal::UnsoundState),
+        answer: None,
     }
 }
 
@@ -201,16 +193,16 @@ fn is_phase(number: u8, phase: u8) -> bool
     ensures { result ≡ eqb (phase_number (phase_of number)) phase }
 {
     let found = phase_of(number);
-    records::phase_number(found) == phase
+    u8::from(found) == phase
 }
 
-fn enclave_if(present: bool, enclave: u32) -> OptionalEnclave
+fn enclave_if(present: bool, enclave: u32) -> Option<u32>
     ensures { result ≡ enclave_if present enclave }
 {
     if present {
-        return OptionalEnclave::Enclave(enclave);
+        return Some(enclave);
     }
-    OptionalEnclave::NoEnclave
+    None
 }
 
 fn publication_if(
@@ -218,19 +210,19 @@ fn publication_if(
     revision: u64,
     next_event: Tag,
     grant_horizon: Tag,
-) -> OptionalPublication
+) -> Option<FederatePublication>
     ensures { result ≡ publication_if present revision next_event grant_horizon }
 {
     if present {
         let next_event = state::optional_of(next_event);
         let grant_horizon = state::optional_of(grant_horizon);
-        return OptionalPublication::Pending(FederatePublication {
+        return Some(FederatePublication {
             revision,
             next_event,
             grant_horizon,
         });
     }
-    OptionalPublication::NonePending
+    None
 }
 
 // Whether neither is out.
@@ -244,13 +236,13 @@ pub fn no_publication_and_no_probe(c: Coordination, k: Completion) -> bool
     state::is_absent(probe)
 }
 
-fn awaited_revision(phase: u8, revision: u64) -> OptionalNumber
-    ensures { result ≡ cond (eqb (phase_number (phase_of phase)) 5) (Number revision) NoNumber }
+fn awaited_revision(phase: u8, revision: u64) -> Option<u64>
+    ensures { result ≡ cond (eqb (phase_number (phase_of phase)) 5) (Some revision) None }
 {
     if is_phase(phase, 5) {
-        return OptionalNumber::Number(revision);
+        return Some(revision);
     }
-    OptionalNumber::NoNumber
+    None
 }
 
 // The revision; refused: 0.
@@ -300,7 +292,7 @@ pub fn is_settled(state: FederateCoordinationState) -> BoolAnswer
 
 // The enclave whose failure is stored; refused: absent.
 pub fn first_failure(state: FederateCoordinationState) -> EnclaveAnswer
-    ensures { Answers (ask_held NoEnclave (λ s. s.first_failure) state) result.refusal result.answer }
+    ensures { Answers (ask_held None (λ s. s.first_failure) state) result.refusal result.answer }
 {
     let sound = soundness::is_sound(state);
     let failure = enclave_if(state.failed, state.first_failure);
@@ -309,7 +301,7 @@ pub fn first_failure(state: FederateCoordinationState) -> EnclaveAnswer
 
 // The horizon granted; refused: absent.
 pub fn grant_horizon(state: FederateCoordinationState) -> TagAnswer
-    ensures { Answers (ask_held NoTag (λ s. s.grant_horizon) state) result.refusal result.answer }
+    ensures { Answers (ask_held None (λ s. s.grant_horizon) state) result.refusal result.answer }
 {
     let sound = soundness::is_sound(state);
     let cell = state.grant_horizon;
@@ -319,7 +311,7 @@ pub fn grant_horizon(state: FederateCoordinationState) -> TagAnswer
 
 // The completed frontier; refused: absent.
 pub fn completed_frontier(state: FederateCoordinationState) -> TagAnswer
-    ensures { Answers (ask_held NoTag (λ s. s.completed_frontier) state) result.refusal result.answer }
+    ensures { Answers (ask_held None (λ s. s.completed_frontier) state) result.refusal result.answer }
 {
     let sound = soundness::is_sound(state);
     let completion = state.completion;
@@ -330,7 +322,7 @@ pub fn completed_frontier(state: FederateCoordinationState) -> TagAnswer
 
 // The publication that waits to be acquired; refused: absent.
 pub fn pending_publication(state: FederateCoordinationState) -> PublicationAnswer
-    ensures { Answers (ask_held NonePending (λ s. s.pending_publication) state) result.refusal result.answer }
+    ensures { Answers (ask_held None (λ s. s.pending_publication) state) result.refusal result.answer }
 {
     let sound = soundness::is_sound(state);
     let c = state.coordination;
@@ -342,7 +334,7 @@ pub fn pending_publication(state: FederateCoordinationState) -> PublicationAnswe
 
 // The revision whose idle confirmation is awaited; refused: absent.
 pub fn idle_confirmation_revision(state: FederateCoordinationState) -> RevisionAnswer
-    ensures { Answers (ask_held NoNumber idle_confirmation_revision state) result.refusal result.answer }
+    ensures { Answers (ask_held None idle_confirmation_revision state) result.refusal result.answer }
 {
     let sound = soundness::is_sound(state);
     let c = state.coordination;
@@ -352,26 +344,26 @@ pub fn idle_confirmation_revision(state: FederateCoordinationState) -> RevisionA
 
 // The candidate of an enclave; refused: unknown.
 pub fn candidate(state: FederateCoordinationState, enclave: u32) -> CandidateAnswer
-    ensures { Answers (ask_held Unknown (λ s. candidate_as (candidate_of enclave s)) state) result.refusal result.answer }
+    ensures { Answers (ask_held None (candidate_of enclave) state) result.refusal result.answer }
 {
     if !soundness::is_sound(state) {
         return CandidateAnswer {
-            refusal: Refusal::UnsoundState,
-            answer: FoundCandidate::Unknown,
+            refusal: Some(Refusal::UnsoundState),
+            answer: None,
         };
     }
     let count = state.count;
     let place = table::find(&state.enclaves, count, enclave);
     if count <= place {
         return CandidateAnswer {
-            refusal: Refusal::Taken,
-            answer: FoundCandidate::Unknown,
+            refusal: None,
+            answer: None,
         };
     }
     let cell = table::tag_at(&state.seconds, &state.nanoseconds, &state.microsteps, place);
     let candidate = state::optional_of(cell);
     CandidateAnswer {
-        refusal: Refusal::Taken,
-        answer: FoundCandidate::Known(candidate),
+        refusal: None,
+        answer: Some(candidate),
     }
 }

@@ -1,5 +1,5 @@
 -- The numbers that document 01 gives to each case of the records' enums, and the next revision. Assumes nothing.
-use Rattle.std.specs.Prelude.{ℕ, ◌+◌, ◌%◌, ◌^◌}
+use Rattle.std.specs.Prelude.{◌≡◌, ◌≤◌, ℕ, ◌+◌, ◌%◌, ◌^◌, None, Option, Some, Result, MatchResult}
 use Rattle.records.specs.declared.LifecyclePolicy.{LifecyclePolicy}
 use Rattle.records.specs.declared.LifecyclePolicy.TheVariants.{KeepAlive, TerminateWhenIdle, CoordinatedTermination}
 use Rattle.records.specs.declared.CoordinationPhase.{CoordinationPhase}
@@ -10,6 +10,7 @@ use Rattle.records.specs.declared.SchedulerMessage.{SchedulerMessage}
 use Rattle.records.specs.declared.SchedulerMessage.TheVariants as message
 use Rattle.records.specs.declared.CoordinationAction.{CoordinationAction}
 use Rattle.records.specs.declared.CoordinationAction.TheVariants as action
+use Rattle.records.specs.declared.UnknownNumber.{UnknownNumber}
 use Rattle.records.specs.declared.Verdict.{Verdict}
 use Rattle.records.specs.declared.Verdict.TheVariants as verdict
 use Rattle.records.specs.declared.Refusal.{Refusal}
@@ -69,19 +70,23 @@ verdict_number verdict.Ignored = 1
 verdict_number verdict.Refused = 2
 
 -- "Ceilings and refusals"
-abbrev pub refusal_number : Refusal → ℕ
-refusal_number refusal.Taken = 0
-refusal_number refusal.NoParticipants = 1
-refusal_number refusal.DuplicateEnclave = 2
-refusal_number refusal.UnknownEnclave = 3
-refusal_number refusal.InvalidObservationTransition = 4
-refusal_number refusal.TooManyParticipants = 5
-refusal_number refusal.IndexTooLarge = 6
-refusal_number refusal.ImproperTag = 7
-refusal_number refusal.RoomTooSmall = 8
-refusal_number refusal.GenerationSpent = 9
-refusal_number refusal.DelayOutOfRange = 10
-refusal_number refusal.ScriptOutOfForm = 11
-refusal_number refusal.ScriptTooLong = 12
-refusal_number refusal.UnsoundState = 27
-refusal_number refusal.NoActionRecord = 28
+abbrev pub refusal_number : Option Refusal → ℕ
+refusal_number None = 0
+refusal_number (Some refusal.NoParticipants) = 1
+refusal_number (Some refusal.DuplicateEnclave) = 2
+refusal_number (Some refusal.UnknownEnclave) = 3
+refusal_number (Some refusal.InvalidObservationTransition) = 4
+refusal_number (Some refusal.TooManyParticipants) = 5
+refusal_number (Some refusal.IndexTooLarge) = 6
+refusal_number (Some refusal.ImproperTag) = 7
+refusal_number (Some refusal.RoomTooSmall) = 8
+refusal_number (Some refusal.GenerationSpent) = 9
+refusal_number (Some refusal.DelayOutOfRange) = 10
+refusal_number (Some refusal.ScriptOutOfForm) = 11
+refusal_number (Some refusal.ScriptTooLong) = 12
+refusal_number (Some refusal.UnsoundState) = 27
+refusal_number (Some refusal.NoActionRecord) = 28
+
+-- what a number is read as: the case that has it, or the number, where none of so many cases does
+abbrev pub Decodes : {A : Type 0} → (A → ℕ) → ℕ → ℕ → Result A UnknownNumber → Type 0
+Decodes number_of cases n r = MatchResult r (λ x. number_of x ≡ n) (λ e. (e.0 ≡ n) × (cases ≤ n))

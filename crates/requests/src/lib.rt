@@ -13,7 +13,7 @@ use records::{
     CoordinationRevision, EnclaveIndex, FederateAcquisition, FederatePublication, Observation,
 };
 use state::FederateCoordinationState;
-use tags::{OptionalTag, Tag};
+use tags::Tag;
 
 // A call that takes room and is no scheduler message.
 #[derive(Clone, Copy)]
@@ -29,7 +29,7 @@ pub enum Request {
 // A call of the gate that changes the state.
 #[derive(Clone, Copy)]
 pub enum Change {
-    InputHorizon(OptionalTag),
+    InputHorizon(Option<Tag>),
     BeginTag(EnclaveIndex, Tag),
     // Of the enclaves that are lent beside it.
     InputPublishing,

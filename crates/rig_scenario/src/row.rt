@@ -1,17 +1,17 @@
 // A row of the scenario: the letter of a call, an enclave, a tag and a number, a byte each. Enclave `-` is none, tag `-` is absent and `!` improper; a
 // digit of a tag is its seconds.
 use records::{
-    FederateAcquisition, FederatePublication, Observation, OptionalEnclave, SchedulerMessage,
+    FederateAcquisition, FederatePublication, Observation, SchedulerMessage,
 };
 use requests::{Change, Request};
-use tags::{OptionalTag, Tag};
+use tags::Tag;
 
 #[derive(Clone, Copy)]
 pub struct Row {
     pub kind: u8,
     pub named: bool,
     pub enclave: u32,
-    pub tag: OptionalTag,
+    pub tag: Option<Tag>,
     pub number: u64,
 }
 
@@ -22,18 +22,18 @@ fn digit(byte: u8) -> u8 {
     byte - b'0'
 }
 
-fn tag_of(byte: u8) -> OptionalTag {
+fn tag_of(byte: u8) -> Option<Tag> {
     if byte == b'-' {
-        return OptionalTag::NoTag;
+        return None;
     }
     if byte == b'!' {
-        return OptionalTag::At(Tag {
+        return Some(Tag {
             seconds: 1,
             nanoseconds: -1,
             microstep: 0,
         });
     }
-    OptionalTag::At(Tag {
+    Some(Tag {
         seconds: octets::signed64(digit(byte) as u64),
         nanoseconds: 0,
         microstep: 0,
@@ -50,18 +50,18 @@ pub fn row_of(kind: u8, enclave: u8, tag: u8, number: u8) -> Row {
     }
 }
 
-fn tag_or_zero(tag: OptionalTag) -> Tag {
+fn tag_or_zero(tag: Option<Tag>) -> Tag {
     match tag {
-        OptionalTag::NoTag => Tag::ZERO,
-        OptionalTag::At(t) => t,
+        None => Tag::ZERO,
+        Some(t) => t,
     }
 }
 
-fn enclave_or_none(row: Row) -> OptionalEnclave {
+fn enclave_or_none(row: Row) -> Option<u32> {
     if row.named {
-        return OptionalEnclave::Enclave(row.enclave);
+        return Some(row.enclave);
     }
-    OptionalEnclave::NoEnclave
+    None
 }
 
 // `a` active, `p` publish, `c` complete, `o` observed, `s` stopped; any other failed.
@@ -104,7 +104,7 @@ fn publication_of(row: Row) -> FederatePublication {
     FederatePublication {
         revision: row.number,
         next_event,
-        grant_horizon: OptionalTag::NoTag,
+        grant_horizon: None,
     }
 }
 

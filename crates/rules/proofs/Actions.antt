@@ -1,11 +1,11 @@
 -- `CallOnlyChooses`: a tag in an action is given by the call, is one of the state, or is the least, greatest or capped of such ones, which is one of
 -- them; an enclave is a participant's index or is named by a taken call, which knows it; a revision wraps below 2^64, and a taken call's generation
 -- is not spent. Proved rule by rule, with what each leaves to choose from. Assumes nothing.
+use Rattle.std.specs.Prelude.{None, Some, Option}
 use Prim.Native.Nat.{ℕ, ◌<◌, ◌^◌}
 use mathlib.Core.Path.{subst}
 use mathlib.Core.Bool.{Bool, true, false, not, cond, ◌&&◌, ◌||◌}
 use mathlib.Core.List.{List, [], ◌∷◌, ◌++◌}
-use mathlib.Core.Option.{Option, none, some}
 use native.Mathlib.Nat.{mod-lt}
 use lib.Dec.{T, leb, eqb, lit≤, nleb→lt, eqb→eq}
 use Rattle.tags.specs.Tags.{◌≤ₜ◌, is_at_or_below, capped_by, greater_present, is_below, is_present, lesser_of_both, lesser_present, same_optional}
@@ -16,7 +16,7 @@ use Rattle.rules.specs.Calls.{also, call, facts, is_spent, is_taken, knows_all, 
 use Rattle.rules.specs.Completion.{advance_of, advance_to, all_answered, answers_probe, asks, complete_all, complete_by, complete_tag_of, finish, front_of, is_held, lags, least_completed, next_generation, noted, observed_of, probe_for, raises_to}
 use Rattle.rules.specs.Demands.{Each}
 use Rattle.rules.specs.Gate.{begin_tag_of, begun, input_publishing_of, may_begin, noticed}
-use Rattle.rules.specs.Model.{Active, At, AwaitingIdleConfirmation, Call, CoordinatedTermination, CoordinationAction, CoordinationPhase, Counts, Given, HasParked, Ignored, KeepAlive, LifecyclePolicy, NoTag, NoneStored, Number, Observation, OptionalAcquisition, OptionalEnclave, OptionalTag, Parked, Parking, Participant, Probed, Probing, Rechecked, Rechecking, Refused, Resume, State, Step, Stopped, Stored, Tag, TerminateWhenIdle, Verdict, acquire, active, begin, complete, done, failed, horizon, idle, input, late, observe, observed, progress, publish, sent, stop, stopped}
+use Rattle.rules.specs.Model.{Active, AwaitingIdleConfirmation, Call, CoordinatedTermination, CoordinationAction, CoordinationPhase, Counts, Given, HasParked, Ignored, KeepAlive, LifecyclePolicy, NoneStored, Observation, OptionalAcquisition, Parked, Parking, Participant, Probed, Probing, Rechecked, Rechecking, Refused, Resume, State, Step, Stopped, Stored, Tag, TerminateWhenIdle, Verdict, acquire, active, begin, complete, done, failed, horizon, idle, input, late, observe, observed, progress, publish, sent, stop, stopped}
 use Rattle.rules.specs.Observation.{agreed, all_observed, awaits, idle_confirmation_of, lacks_authorization, observation_of, observe_by, observed_already, observes, tally, unheard, verdict_of}
 use Rattle.rules.specs.Publication.{activate_of, all_published, announce, deactivated, enlist, forget, idle_probe, least_candidate, publish_by, publish_of, repeated, revise_of, store, unpublish}
 use Rattle.rules.specs.Set.{with_completed, with_completion_observed, with_completion_probe, with_started}
@@ -33,38 +33,38 @@ module _ (P : Tag → Type 0) where
   one_of : (b : Bool) (x y : Tag) → P x → P y → P (cond b x y)
   one_of b x y h k = if-true P b (λ u. h) (λ u. k)
 
-  lesser-one : (m n : OptionalTag) → IfAt P m → IfAt P n → IfAt P (lesser_present m n)
-  lesser-one NoTag n h k = k
-  lesser-one (At a) NoTag h k = h
-  lesser-one (At a) (At b) h k = one_of (a ≤ₜ b) a b h k
+  lesser-one : (m n : Option Tag) → IfAt P m → IfAt P n → IfAt P (lesser_present m n)
+  lesser-one None n h k = k
+  lesser-one (Some a) None h k = h
+  lesser-one (Some a) (Some b) h k = one_of (a ≤ₜ b) a b h k
 
-  greater-one : (m n : OptionalTag) → IfAt P m → IfAt P n → IfAt P (greater_present m n)
-  greater-one NoTag n h k = k
-  greater-one (At a) NoTag h k = h
-  greater-one (At a) (At b) h k = one_of (a ≤ₜ b) b a k h
+  greater-one : (m n : Option Tag) → IfAt P m → IfAt P n → IfAt P (greater_present m n)
+  greater-one None n h k = k
+  greater-one (Some a) None h k = h
+  greater-one (Some a) (Some b) h k = one_of (a ≤ₜ b) b a k h
 
-  both_one : (m n : OptionalTag) → IfAt P m → IfAt P n → IfAt P (lesser_of_both m n)
-  both_one NoTag n h k = tt
-  both_one (At a) NoTag h k = tt
-  both_one (At a) (At b) h k = one_of (a ≤ₜ b) a b h k
+  both_one : (m n : Option Tag) → IfAt P m → IfAt P n → IfAt P (lesser_of_both m n)
+  both_one None n h k = tt
+  both_one (Some a) None h k = tt
+  both_one (Some a) (Some b) h k = one_of (a ≤ₜ b) a b h k
 
-  capped-one : (m : OptionalTag) (t : Tag) → IfAt P m → P t → P (capped_by m t)
-  capped-one NoTag t h k = k
-  capped-one (At c) t h k = one_of (t ≤ₜ c) t c k h
+  capped-one : (m : Option Tag) (t : Tag) → IfAt P m → P t → P (capped_by m t)
+  capped-one None t h k = k
+  capped-one (Some c) t h k = one_of (t ≤ₜ c) t c k h
 
-  raised-one : (m : OptionalTag) (t : Tag) → IfAt P m → P t → P (raised_horizon m t)
-  raised-one NoTag t h k = k
-  raised-one (At c) t h k = one_of (c ≤ₜ t) t c k h
+  raised-one : (m : Option Tag) (t : Tag) → IfAt P m → P t → P (raised_horizon m t)
+  raised-one None t h k = k
+  raised-one (Some c) t h k = one_of (c ≤ₜ t) t c k h
 
-  present-one : (m : OptionalTag) (t : Tag) → IfAt P m → P t → P (tag_or t m)
-  present-one NoTag t h k = k
-  present-one (At c) t h k = h
+  present-one : (m : Option Tag) (t : Tag) → IfAt P m → P t → P (tag_or t m)
+  present-one None t h k = k
+  present-one (Some c) t h k = h
 
-  least-one : (f : Participant → OptionalTag) (ps : List Participant) → Each (λ p. IfAt P (f p)) ps → IfAt P (least_of f ps)
+  least-one : (f : Participant → Option Tag) (ps : List Participant) → Each (λ p. IfAt P (f p)) ps → IfAt P (least_of f ps)
   least-one f [] h = tt
   least-one f (p ∷ ps) h = lesser-one (f p) (least_of f ps) h.0 (least-one f ps h.1)
 
-  greatest-one : (f : Participant → OptionalTag) (ps : List Participant) → Each (λ p. IfAt P (f p)) ps → IfAt P (greatest_of f ps)
+  greatest-one : (f : Participant → Option Tag) (ps : List Participant) → Each (λ p. IfAt P (f p)) ps → IfAt P (greatest_of f ps)
   greatest-one f [] h = tt
   greatest-one f (p ∷ ps) h = greater-one (f p) (greatest_of f ps) h.0 (greatest-one f ps h.1)
 
@@ -159,18 +159,18 @@ module _ (P : Tag → Type 0) (E : ℕ → Type 0) where
   chosen-stop s v =
       if-true (Chosen P E) (is_stopped s) (λ u. still s v) (λ u. record { actions = (record { tags = tt; enclaves = tt; numbers = tt }, tt); sources = v })
 
-  chosen-failed : (e : OptionalEnclave) (s : State) → Sources P E s → Chosen P E (fail_of e s)
+  chosen-failed : (e : Option ℕ) (s : State) → Sources P E s → Chosen P E (fail_of e s)
   unfolding fail_of
   chosen-failed e s v =
       if-true (Chosen P E) (is_stopped s) (λ u. still s v) (λ u. record { actions = (record { tags = tt; enclaves = tt; numbers = tt }, tt); sources = v })
 
   -- ---- publish
 
-  made-idle : (m : OptionalTag) (l : LifecyclePolicy) (r : ℕ) → r < 2 ^ 64 → Each (Made P E) (idle_probe m l r)
-  made-idle (At t) l r h = tt
-  made-idle NoTag KeepAlive r h = tt
-  made-idle NoTag TerminateWhenIdle r h = (record { tags = tt; enclaves = tt; numbers = (h, tt) }, tt)
-  made-idle NoTag CoordinatedTermination r h = (record { tags = tt; enclaves = tt; numbers = (h, tt) }, tt)
+  made-idle : (m : Option Tag) (l : LifecyclePolicy) (r : ℕ) → r < 2 ^ 64 → Each (Made P E) (idle_probe m l r)
+  made-idle (Some t) l r h = tt
+  made-idle None KeepAlive r h = tt
+  made-idle None TerminateWhenIdle r h = (record { tags = tt; enclaves = tt; numbers = (h, tt) }, tt)
+  made-idle None CoordinatedTermination r h = (record { tags = tt; enclaves = tt; numbers = (h, tt) }, tt)
 
   made-repeated : (h : CoordinationPhase) (r : ℕ) → r < 2 ^ 64 → Each (Made P E) (repeated h r)
   made-repeated Active r h = tt
@@ -197,7 +197,7 @@ module _ (P : Tag → Type 0) (E : ℕ → Type 0) where
           each-++ (Made P E) (cond b (Resume e s.revision ∷ []) []) (idle_probe (least_candidate s) s.lifecycle s.revision)
           (made-resume b e s.revision k v.revision) (made-idle (least_candidate s) s.lifecycle s.revision v.revision)
 
-  chosen-enlist : (e : ℕ) (c : OptionalTag) (b : Bool) (s : State) → Sources P E s → E e → IfAt P c → Chosen P E (enlist e c b s)
+  chosen-enlist : (e : ℕ) (c : Option Tag) (b : Bool) (s : State) → Sources P E s → E e → IfAt P c → Chosen P E (enlist e c b s)
   unfolding enlist
   chosen-enlist e c b s v k h = if-true (Chosen P E) (all_published m) (λ u. chosen-announce e b m w k) (λ u. still m w)
     where
@@ -207,16 +207,16 @@ module _ (P : Tag → Type 0) (E : ℕ → Type 0) where
       w : Sources P E m
       w = after-only e (store c) (λ p x. record { index = x.index; candidate = h; completed = x.completed }) s v
 
-  chosen-publish_by : (e : ℕ) (c : OptionalTag) (s : State) → Sources P E s → E e → IfAt P c → (o : Option Participant) → Chosen P E (publish_by e c s o)
+  chosen-publish_by : (e : ℕ) (c : Option Tag) (s : State) → Sources P E s → E e → IfAt P c → (o : Option Participant) → Chosen P E (publish_by e c s o)
   unfolding publish_by
-  chosen-publish_by e c s v k h none = still s v
-  chosen-publish_by e c s v k h (some p) =
+  chosen-publish_by e c s v k h None = still s v
+  chosen-publish_by e c s v k h (Some p) =
       if-true (Chosen P E) (same_optional p.candidate c)
       (λ u. if-true (Chosen P E) p.published (λ w. record { actions = made-repeated s.phase s.revision v.revision; sources = v })
       (λ w. chosen-enlist e c false s v k h))
       (λ u. chosen-enlist e c (not (is Active s)) (revise_of s) (revised s v) k h)
 
-  chosen-publish : (e : ℕ) (c : OptionalTag) (s : State) → Sources P E s → E e → IfAt P c → Chosen P E (publish_of e c s)
+  chosen-publish : (e : ℕ) (c : Option Tag) (s : State) → Sources P E s → E e → IfAt P c → Chosen P E (publish_of e c s)
   unfolding publish_of
   chosen-publish e c s v k h = if-true (Chosen P E) (is_stopped s) (λ u. still s v) (λ u. chosen-publish_by e c s v k h (find e s.participants))
 
@@ -226,22 +226,22 @@ module _ (P : Tag → Type 0) (E : ℕ → Type 0) where
   unfolding finish
   chosen-finish f s v h = record { actions = (record { tags = (h, tt); enclaves = tt; numbers = tt }, tt); sources = v }
 
-  chosen-complete_all : (m : OptionalTag) (s : State) → Sources P E s → IfAt P m → Chosen P E (complete_all m s)
+  chosen-complete_all : (m : Option Tag) (s : State) → Sources P E s → IfAt P m → Chosen P E (complete_all m s)
   unfolding complete_all
-  chosen-complete_all NoTag s v h = still s v
-  chosen-complete_all (At m) s v h = if-true (Chosen P E) (is_below s.completed_frontier m) (λ u. chosen-finish m s v h) (λ u. still s v)
+  chosen-complete_all None s v h = still s v
+  chosen-complete_all (Some m) s v h = if-true (Chosen P E) (is_below s.completed_frontier m) (λ u. chosen-finish m s v h) (λ u. still s v)
 
   chosen-complete_by : (e : ℕ) (t : Tag) (n : Bool) (s : State) → Sources P E s → P t → (o : Option Participant) → Chosen P E (complete_by e t n s o)
   unfolding complete_by
-  chosen-complete_by e t n s v h none = still s v
-  chosen-complete_by e t n s v h (some p) =
+  chosen-complete_by e t n s v h None = still s v
+  chosen-complete_by e t n s v h (Some p) =
       if-true (Chosen P E) (is_below p.completed t) (λ u. chosen-complete_all (least_completed m.participants) m w (least-completed m w)) (λ u. still s v)
     where
       m : State
       m = noted e t n s
 
       w : Sources P E m
-      w = after-only e (with_completed (At t)) (λ p x. record { index = x.index; candidate = x.candidate; completed = h }) s v
+      w = after-only e (with_completed (Some t)) (λ p x. record { index = x.index; candidate = x.candidate; completed = h }) s v
 
   chosen-complete : (e : ℕ) (t : Tag) (n : Bool) (s : State) → Sources P E s → P t → Chosen P E (complete_tag_of e t n s)
   unfolding complete_tag_of
@@ -250,16 +250,16 @@ module _ (P : Tag → Type 0) (E : ℕ → Type 0) where
   chosen-observed : (e g : ℕ) (s : State) → Sources P E s → Chosen P E (observed_of e g s)
   unfolding observed_of
   chosen-observed e g s v =
-      if-true (Chosen P E) (answers_probe g s) (λ u. still _ (after-only e (with_completion_observed (Number g)) (λ p h. h) s v)) (λ u. still s v)
+      if-true (Chosen P E) (answers_probe g s) (λ u. still _ (after-only e (with_completion_observed (Some g)) (λ p h. h) s v)) (λ u. still s v)
 
-  chosen-advance_to : (m : OptionalTag) (s : State) → Sources P E s → IfAt P m
+  chosen-advance_to : (m : Option Tag) (s : State) → Sources P E s → IfAt P m
       → T (not (raises_to m s && leb (2 ^ 64) (next_generation s.completion_generation))) → Chosen P E (advance_to m s)
   unfolding advance_to probe_for
-  chosen-advance_to NoTag s v h k = still s v
-  chosen-advance_to (At f) s v h k =
-      if-true (Chosen P E) (is_held f s) (λ u. still (with_completion_probe NoTag s) v)
-      (λ u. if-true (Chosen P E) (same_optional s.completion_probe (At f))
-      (λ w. if-true (Chosen P E) (all_answered f s) (λ x. chosen-finish f (with_completion_probe NoTag s) v h) (λ x. still s v))
+  chosen-advance_to None s v h k = still s v
+  chosen-advance_to (Some f) s v h k =
+      if-true (Chosen P E) (is_held f s) (λ u. still (with_completion_probe None s) v)
+      (λ u. if-true (Chosen P E) (same_optional s.completion_probe (Some f))
+      (λ w. if-true (Chosen P E) (all_answered f s) (λ x. chosen-finish f (with_completion_probe None s) v h) (λ x. still s v))
       (λ w. record { actions = each-made (lags f) (asks g) s.participants (asked (below u w)); sources = v }))
     where
       g : ℕ
@@ -270,8 +270,8 @@ module _ (P : Tag → Type 0) (E : ℕ → Type 0) where
       third false true c x y z = absurd y
       third false false c x y z = z
 
-      below : T (not (is_held f s)) → T (not (same_optional s.completion_probe (At f))) → g < 2 ^ 64
-      below u w = nleb→lt (2 ^ 64) g (third (is_held f s) (same_optional s.completion_probe (At f)) (leb (2 ^ 64) g) u w k)
+      below : T (not (is_held f s)) → T (not (same_optional s.completion_probe (Some f))) → g < 2 ^ 64
+      below u w = nleb→lt (2 ^ 64) g (third (is_held f s) (same_optional s.completion_probe (Some f)) (leb (2 ^ 64) g) u w k)
 
       asked : g < 2 ^ 64 → Each (λ p. Made P E (asks g p)) s.participants
       asked l = each-seat (λ p. Made P E (asks g p)) (λ p x. record { tags = tt; enclaves = (x.index, tt); numbers = (l, tt) }) s v
@@ -325,12 +325,12 @@ module _ (P : Tag → Type 0) (E : ℕ → Type 0) where
           if-true (Sources P E) (worth_storing r t s)
           (λ u. record { seats = v.seats; horizon = v.horizon; input_horizon = v.input_horizon; acquisition = h; revision = v.revision }) (λ u. v)
 
-  chosen-sent_under : (m : OptionalTag) (r : ℕ) (n : OptionalTag) (s : State) → Sources P E s → IfAt P m → Chosen P E (sent_under m r n s)
+  chosen-sent_under : (m : Option Tag) (r : ℕ) (n : Option Tag) (s : State) → Sources P E s → IfAt P m → Chosen P E (sent_under m r n s)
   unfolding sent_under
-  chosen-sent_under NoTag r n s v h = still s v
-  chosen-sent_under (At t) r n s v h = if-true (Chosen P E) (is_at_or_below n t) (λ u. chosen-acquire r t s v h) (λ u. still s v)
+  chosen-sent_under None r n s v h = still s v
+  chosen-sent_under (Some t) r n s v h = if-true (Chosen P E) (is_at_or_below n t) (λ u. chosen-acquire r t s v h) (λ u. still s v)
 
-  chosen-sent : (r : ℕ) (n m : OptionalTag) (s : State) → Sources P E s → Chosen P E (publication_sent_of r n m s)
+  chosen-sent : (r : ℕ) (n m : Option Tag) (s : State) → Sources P E s → Chosen P E (publication_sent_of r n m s)
   unfolding publication_sent_of
   chosen-sent r n m s v =
       if-true (Chosen P E) (same_publication s.pending_publication r n m) (λ u. chosen-sent_under s.grant_horizon r n s v v.horizon) (λ u. still s v)
@@ -386,9 +386,9 @@ module _ (P : Tag → Type 0) (E : ℕ → Type 0) where
       let w = after-every (noticed es) (λ p h. h) (revise_of s) (revised s v) in
       still _ (record { seats = w.seats; horizon = w.horizon; input_horizon = w.input_horizon; acquisition = tt; revision = w.revision })
 
-  begun-sources : (m : OptionalTag) (e : ℕ) (t : Tag) (s : State) → Sources P E s → Sources P E (begun m e t s)
-  begun-sources NoTag e t s v = v
-  begun-sources (At c) e t s v = after-only e (with_started (At t)) (λ p h. h) s v
+  begun-sources : (m : Option Tag) (e : ℕ) (t : Tag) (s : State) → Sources P E s → Sources P E (begun m e t s)
+  begun-sources None e t s v = v
+  begun-sources (Some c) e t s v = after-only e (with_started (Some t)) (λ p h. h) s v
 
   chosen-begin : (e : ℕ) (t : Tag) (s : State) → Sources P E s → Chosen P E (begin_tag_of e t s)
   unfolding begin_tag_of
@@ -397,18 +397,18 @@ module _ (P : Tag → Type 0) (E : ℕ → Type 0) where
   -- ---- any call
 
   -- the tag of a call that gives one
-  given : (m : OptionalTag) → Each (IfAt P) (m ∷ []) → IfAt P m
+  given : (m : Option Tag) → Each (IfAt P) (m ∷ []) → IfAt P m
   given m h = h.0
 
   chosen-own : (c : Call) (s : State) → Sources P E s → Each (IfAt P) (facts c).tags → Each E (facts c).names → Chosen P E (own_step c s)
   unfolding own_step
   chosen-own (active e) s v h k = chosen-active e s v k.0
   chosen-own (publish e c) s v h k = chosen-publish e c s v k.0 (given c h)
-  chosen-own (complete e t n) s v h k = chosen-complete e t n s v (given (At t) h)
+  chosen-own (complete e t n) s v h k = chosen-complete e t n s v (given (Some t) h)
   chosen-own (observed e g) s v h k = chosen-observed e g s v
   chosen-own (stopped e) s v h k = chosen-stop s v
   chosen-own (failed e) s v h k = chosen-failed e s v
-  chosen-own (acquire r t) s v h k = chosen-acquire r t s v (given (At t) h)
+  chosen-own (acquire r t) s v h k = chosen-acquire r t s v (given (Some t) h)
   chosen-own (sent r n m) s v h k = chosen-sent r n m s v
   chosen-own (observe e r o) s v h k = chosen-observe e r o s v
   chosen-own (idle r) s v h k = chosen-idle r s v

@@ -1,4 +1,5 @@
 -- T3: a completion probe for f names at least one enclave; and if from then on only acknowledgements and stale acquisitions or observations come, Complete of f comes in the very accepted call that brings the last missing acknowledgement, and not before.
+use Rattle.std.specs.Prelude.{None, Some, Option}
 use mathlib.Core.Path.{◌≡◌, refl, sym, ap, ap₂, ◌∙◌, subst}
 use mathlib.Core.List.{append_assoc, List, [], ◌∷◌, ◌++◌, map}
 use mathlib.Core.Logic.{◌⊎◌, inl, inr}
@@ -6,14 +7,13 @@ use lib.Dec.{T, eqb→eq, eqb}
 use native.Mathlib.Omega.{arith}
 use Prim.Native.Nat.{ℕ}
 use mathlib.Core.Bool.{Bool, true, false, not, cond, ◌&&◌, ◌||◌}
-use mathlib.Core.Option.{Option, none, some}
 use Rattle.tags.specs.Tags.{◌≤ₜ◌, greater_present, has_reached, is_below, is_present, lesser_of_both, same_optional}
 use Rattle.tags.proofs.Order.{≤ₜ-refl}
 use Rattle.rules.specs.Acquisition.{acquisition_of}
 use Rattle.rules.specs.Calls.{also, call, facts, is_taken, own_step, take_step, then_advance}
 use Rattle.rules.specs.Completion.{advance_of, advance_to, all_answered, answers_probe, asks, blocks, complete_all, complete_by, complete_of, complete_tag_of, finish, front_of, has_answered, is_held, lags, least_completed, marked, next_generation, noted, observed_of, probe_for}
 use Rattle.rules.specs.Demands.{Answered, Consistent, Course, Each, IfNone, Late, LateGiven, NonEmpty, ProbeIsAnswered, Stale, UpTo, acknowledgement, acquisition, as_call, given, named, observation, probe_name, remove, state_after, still_missing}
-use Rattle.rules.specs.Model.{At, AwaitingIdleConfirmation, Call, Complete, CoordinationAction, Given, NoNumber, NoTag, Number, OptionalInputs, OptionalNumber, OptionalTag, Participant, State, Step, Tag}
+use Rattle.rules.specs.Model.{AwaitingIdleConfirmation, Call, Complete, CoordinationAction, Given, OptionalInputs, Participant, State, Step, Tag}
 use Rattle.rules.specs.Observation.{observation_of, unheard}
 use Rattle.rules.specs.Set.{with_completion_observed, with_completion_probe}
 use Rattle.rules.specs.Walk.{all, any, at, each, find, greatest_of, is, is_number, is_stopped, only, outdated, quiet}
@@ -31,7 +31,7 @@ missing_in f s = missing f s.completion_generation s.participants
 
 -- a probe for f is out, and f is what the completion step would go by
 abbrev pub Waiting : Tag → State → Type 0
-Waiting f s = record { running : T (not (is_stopped s)); fronts : front_of s ≡ At f; free : T (not (is_held f s)); probed : s.completion_probe ≡ At f }
+Waiting f s = record { running : T (not (is_stopped s)); fronts : front_of s ≡ Some f; free : T (not (is_held f s)); probed : s.completion_probe ≡ Some f }
 
 abbrev pub Probes : Step → Type 0
 Probes o = record { for : Tag; waits : Waiting for o.state; who : named o.actions ≡ missing_in for o.state; someone : NonEmpty (named o.actions) }
@@ -50,9 +50,9 @@ pub named-++ : (a b : List CoordinationAction) → named (a ++ b) ≡ named a ++
 named-++ [] b = refl
 named-++ (x ∷ a) b = ap (λ (l : List ℕ). probe_name x ++ l) (named-++ a b) ∙ sym (append_assoc (probe_name x) (named a) (named b))
 
-not_yet : (m : OptionalNumber) (g : ℕ) → UpTo m g → T (not (is_number m (next_generation g)))
-not_yet NoNumber g h = tt
-not_yet (Number n) g h = go (eqb n (next_generation g)) (λ t. eqb→eq n (next_generation g) t)
+not_yet : (m : Option ℕ) (g : ℕ) → UpTo m g → T (not (is_number m (next_generation g)))
+not_yet None g h = tt
+not_yet (Some n) g h = go (eqb n (next_generation g)) (λ t. eqb→eq n (next_generation g) t)
   where
     go : (b : Bool) → (T b → n ≡ next_generation g) → T (not b)
     go true f = let e = f tt in omega arith
@@ -82,7 +82,7 @@ clash : (b : Bool) → T b → T (not b) → ⊥
 clash true x y = y
 clash false x y = x
 
-probes-at : (f : Tag) (s : State) → Consistent s → T (not (is_stopped s)) → front_of s ≡ At f → T (not (is_held f s)) → Probes (probe_for f s)
+probes-at : (f : Tag) (s : State) → Consistent s → T (not (is_stopped s)) → front_of s ≡ Some f → T (not (is_held f s)) → Probes (probe_for f s)
 unfolding probe_for
 probes-at f s v run e free = record {
   for = f;
@@ -99,11 +99,11 @@ asks-advance : (s : State) → Consistent s → Asks s (advance_of s)
 unfolding advance_of advance_to finish
 asks-advance s v = if-true (Asks s) (is_stopped s) (λ u. inl (refl, refl)) (λ u. go u (front_of s) refl)
   where
-    go : T (not (is_stopped s)) → (m : OptionalTag) → front_of s ≡ m → Asks s (advance_to m s)
-    go u NoTag e = inl (refl, refl)
-    go u (At f) e =
+    go : T (not (is_stopped s)) → (m : Option Tag) → front_of s ≡ m → Asks s (advance_to m s)
+    go u None e = inl (refl, refl)
+    go u (Some f) e =
         if-true (Asks s) (is_held f s) (λ w. inl (refl, refl))
-        (λ w. if-true (Asks s) (same_optional s.completion_probe (At f)) (λ x. if-true (Asks s) (all_answered f s) (λ y. inl (refl, refl)) (λ y. inl (refl, refl)))
+        (λ w. if-true (Asks s) (same_optional s.completion_probe (Some f)) (λ x. if-true (Asks s) (all_answered f s) (λ y. inl (refl, refl)) (λ y. inl (refl, refl)))
         (λ x. inr (probes-at f s v u e w)))
 
 nobody-complete : (e : ℕ) (t : Tag) (n : Bool) (s : State) → AsksNobody s (complete_tag_of e t n s)
@@ -113,13 +113,13 @@ nobody-complete e t n s = if-true P (is_stopped s) (λ u. (refl, refl)) (λ u. g
     P : Step → Type 0
     P = AsksNobody s
 
-    all_have : (m : OptionalTag) → P (complete_all m (noted e t n s))
-    all_have NoTag = (refl, refl)
-    all_have (At m) = if-true P (is_below s.completed_frontier m) (λ u. (refl, refl)) (λ u. (refl, refl))
+    all_have : (m : Option Tag) → P (complete_all m (noted e t n s))
+    all_have None = (refl, refl)
+    all_have (Some m) = if-true P (is_below s.completed_frontier m) (λ u. (refl, refl)) (λ u. (refl, refl))
 
     go : (o : Option Participant) → P (complete_by e t n s o)
-    go none = (refl, refl)
-    go (some p) = if-true P (is_below p.completed t) (λ u. all_have (least_completed (noted e t n s).participants)) (λ u. (refl, refl))
+    go None = (refl, refl)
+    go (Some p) = if-true P (is_below p.completed t) (λ u. all_have (least_completed (noted e t n s).participants)) (λ u. (refl, refl))
 
 nobody-observed : (e g : ℕ) (s : State) → AsksNobody s (observed_of e g s)
 unfolding observed_of
@@ -165,18 +165,18 @@ cond_no true x y h = absurd h
 cond_no false x y h = refl
 
 -- the completion step in a waiting state
-same_self : (m : OptionalTag) (f : Tag) → m ≡ At f → T (same_optional m (At f))
-same_self m f e = subst (λ (x : OptionalTag). T (same_optional x (At f))) (sym e) (go (f ≤ₜ f) (≤ₜ-refl f))
+same_self : (m : Option Tag) (f : Tag) → m ≡ Some f → T (same_optional m (Some f))
+same_self m f e = subst (λ (x : Option Tag). T (same_optional x (Some f))) (sym e) (go (f ≤ₜ f) (≤ₜ-refl f))
   where
     go : (b : Bool) → T b → T (b && b)
     go true h = tt
     go false h = h
 
-waiting-advance : (f : Tag) (s : State) → Waiting f s → advance_of s ≡ cond (all_answered f s) (finish f (with_completion_probe NoTag s)) (quiet s)
+waiting-advance : (f : Tag) (s : State) → Waiting f s → advance_of s ≡ cond (all_answered f s) (finish f (with_completion_probe None s)) (quiet s)
 unfolding advance_of advance_to
 waiting-advance f s w =
-    cond_no (is_stopped s) (quiet s) (advance_to (front_of s) s) w.running ∙ ap (λ (m : OptionalTag). advance_to m s) w.fronts ∙ cond_no (is_held f s) _ _ w.free ∙
-    cond_yes (same_optional s.completion_probe (At f)) _ _ (same_self s.completion_probe f w.probed)
+    cond_no (is_stopped s) (quiet s) (advance_to (front_of s) s) w.running ∙ ap (λ (m : Option Tag). advance_to m s) w.fronts ∙ cond_no (is_held f s) _ _ w.free ∙
+    cond_yes (same_optional s.completion_probe (Some f)) _ _ (same_self s.completion_probe f w.probed)
 
 -- all have answered exactly when none is missing
 none-missing : (f : Tag) (g : ℕ) (ps : List Participant) → (T (all (has_answered f g) ps) × (missing f g ps ≡ [])) ⊎ (T (not (all (has_answered f g) ps)) × NonEmpty (missing f g ps))
@@ -197,13 +197,13 @@ unfolding Settles finish
 settles f s w = go (none-missing f s.completion_generation s.participants)
   where
     go : (T (all_answered f s) × (missing_in f s ≡ [])) ⊎ (T (not (all_answered f s)) × NonEmpty (missing_in f s)) → Settles f s
-    go (inl h) = inl (h.1, ap (λ (o : Step). o.actions) (waiting-advance f s w ∙ cond_yes (all_answered f s) (finish f (with_completion_probe NoTag s)) (quiet s) h.0))
-    go (inr h) = inr (h.1, waiting-advance f s w ∙ cond_no (all_answered f s) (finish f (with_completion_probe NoTag s)) (quiet s) h.0)
+    go (inl h) = inl (h.1, ap (λ (o : Step). o.actions) (waiting-advance f s w ∙ cond_yes (all_answered f s) (finish f (with_completion_probe None s)) (quiet s) h.0))
+    go (inr h) = inr (h.1, waiting-advance f s w ∙ cond_no (all_answered f s) (finish f (with_completion_probe None s)) (quiet s) h.0)
 
 -- ---- what an acknowledgement changes
 
 acked-by : ℕ → ℕ → Participant → Participant
-acked-by e n p = at e (with_completion_observed (Number n)) p
+acked-by e n p = at e (with_completion_observed (Some n)) p
 
 or_yes : (a b : Bool) → T b → T (a || b)
 or_yes true b h = tt
@@ -231,8 +231,8 @@ missing-ack f g e n h (p ∷ ps) = go_b (missing-ack f g e n h ps) (eqb p.index 
     other q z false = ap {B = List ℕ} (λ l. i ∷ l) q ∙ sym (cond_no (eqb i e) (remove e Y) (i ∷ remove e Y) z)
 
     go_b : X ≡ remove e Y → (b : Bool) → (T b → T (eqb i e)) → (T (not b) → T (not (eqb i e)))
-        → cond (has_answered f g (cond b (with_completion_observed (Number n) p) p)) X ((cond b (with_completion_observed (Number n) p) p).index ∷ X) ≡ remove e (cond (has_answered f g p) Y (i ∷ Y))
-    go_b q true y z = cond_yes (has_answered f g (with_completion_observed (Number n) p)) X (i ∷ X) (or_yes (not (lags f p)) (eqb n g) h) ∙ named-p q (y tt)
+        → cond (has_answered f g (cond b (with_completion_observed (Some n) p) p)) X ((cond b (with_completion_observed (Some n) p) p).index ∷ X) ≡ remove e (cond (has_answered f g p) Y (i ∷ Y))
+    go_b q true y z = cond_yes (has_answered f g (with_completion_observed (Some n) p)) X (i ∷ X) (or_yes (not (lags f p)) (eqb n g) h) ∙ named-p q (y tt)
     go_b q false y z = other q (z tt) (has_answered f g p)
 
 greatest-map : (h : Participant → Participant) → ((p : Participant) → (h p).completed ≡ p.completed) → (ps : List Participant) → greatest_of (λ p. p.completed) (map h ps) ≡ greatest_of (λ p. p.completed) ps
@@ -244,19 +244,19 @@ any-map q h k [] = refl
 any-map q h k (p ∷ ps) = ap₂ (λ (x y : Bool). x || y) (k p) (any-map q h k ps)
 
 acknowledged : ℕ → ℕ → State → State
-acknowledged e n s = only e (with_completion_observed (Number n)) s
+acknowledged e n s = only e (with_completion_observed (Some n)) s
 
 waiting-ack : (f : Tag) (e n : ℕ) (s : State) → Waiting f s → Waiting f (acknowledged e n s)
 unfolding acknowledged
 waiting-ack f e n s w = record {
   running = w.running;
-  fronts = ap (λ (m : OptionalTag). lesser_of_both m s.grant_horizon) (greatest-map h (λ p. if-true (λ (q : Participant). q.completed ≡ p.completed) (eqb p.index e) (λ u. refl) (λ u. refl)) s.participants) ∙ w.fronts;
+  fronts = ap (λ (m : Option Tag). lesser_of_both m s.grant_horizon) (greatest-map h (λ p. if-true (λ (q : Participant). q.completed ≡ p.completed) (eqb p.index e) (λ u. refl) (λ u. refl)) s.participants) ∙ w.fronts;
   free = subst (λ (b : Bool). T (not (not (is_below s.completed_frontier f) || b))) (sym (any-map (blocks f) h (λ p. if-true (λ (q : Participant). blocks f q ≡ blocks f p) (eqb p.index e) (λ u. refl) (λ u. refl)) s.participants)) w.free;
   probed = w.probed;
 }
   where
     h : Participant → Participant
-    h = at e (with_completion_observed (Number n))
+    h = at e (with_completion_observed (Some n))
 
 -- ---- one late call
 
@@ -278,8 +278,8 @@ outcome-advance f s t w i r = go (settles f t w)
     go (inl h) = inl (h.0, h.1 ∙ ap {B = List CoordinationAction} (λ (m : OptionalInputs). Complete (record { completed = f; network_input = marked m f }) ∷ []) i)
     go (inr h) = subst (λ (o : Step). Outcome f s (missing_in f t) (also (quiet t) o)) (sym h.1) (inr (h.0, refl, w, refl, r))
 
-at-present : (m : OptionalTag) (f : Tag) → m ≡ At f → T (is_present m)
-at-present m f e = subst (λ (x : OptionalTag). T (is_present x)) (sym e) tt
+at-present : (m : Option Tag) (f : Tag) → m ≡ Some f → T (is_present m)
+at-present m f e = subst (λ (x : Option Tag). T (is_present x)) (sym e) tt
 
 and_both : (a b : Bool) → T a → T b → T (a && b)
 and_both true b h k = k

@@ -1,18 +1,18 @@
 -- What every rule but completion's three leaves alone: the completed frontier, the generation, and of each enclave its index, completed tag and acknowledgement; and it keeps or clears the completion probe. Proved once for each such rule.
+use Rattle.std.specs.Prelude.{None, Some, Option}
 use mathlib.Core.Path.{◌≡◌, refl, ap₂, ◌∙◌}
 use lib.Dec.{T, eqb}
 use native.Mathlib.Omega.{arith}
 use Prim.Native.Nat.{ℕ}
 use mathlib.Core.Bool.{Bool, true, false, not, cond}
 use mathlib.Core.List.{List, [], ◌∷◌, ◌++◌, map}
-use mathlib.Core.Option.{Option, none, some}
 use Rattle.tags.specs.Tags.{is_at_or_below, capped_by, same_optional}
 use Rattle.rules.specs.Acquisition.{acquire_capped, acquisition_of, grant_of, granted_up_to, grants, is_grantable, nothing_new, progress_by, publication_sent_of, same_publication, sent_under, stored, worth_storing}
 use Rattle.rules.specs.Calls.{own_step}
 use Rattle.rules.specs.Completion.{complete_tag_of, observed_of}
 use Rattle.rules.specs.Demands.{complete_tag, completes, named, probe_name}
 use Rattle.rules.specs.Gate.{begin_tag_of, begun, input_publishing_of, may_begin, noticed}
-use Rattle.rules.specs.Model.{Active, At, AwaitingIdleConfirmation, Call, CoordinatedTermination, CoordinationAction, CoordinationPhase, Counts, HasParked, Ignored, KeepAlive, LifecyclePolicy, NoTag, NoneStored, Observation, OptionalAcquisition, OptionalEnclave, OptionalNumber, OptionalTag, Parked, Parking, Participant, Probed, Probing, Rechecked, Rechecking, Refused, State, Step, Stopped, Stored, Tag, TerminateWhenIdle, Verdict, acquire, active, begin, complete, done, failed, horizon, idle, input, late, observe, observed, progress, publish, sent, stop, stopped}
+use Rattle.rules.specs.Model.{Active, AwaitingIdleConfirmation, Call, CoordinatedTermination, CoordinationAction, CoordinationPhase, Counts, HasParked, Ignored, KeepAlive, LifecyclePolicy, NoneStored, Observation, OptionalAcquisition, Parked, Parking, Participant, Probed, Probing, Rechecked, Rechecking, Refused, State, Step, Stopped, Stored, Tag, TerminateWhenIdle, Verdict, acquire, active, begin, complete, done, failed, horizon, idle, input, late, observe, observed, progress, publish, sent, stop, stopped}
 use Rattle.rules.specs.Observation.{agreed, all_observed, awaits, idle_confirmation_of, lacks_authorization, observation_of, observe_by, observed_already, observes, tally, unheard, verdict_of}
 use Rattle.rules.specs.Publication.{activate_of, all_published, announce, enlist, forget, idle_probe, least_candidate, publish_by, publish_of, repeated, revise_of, store, unpublish}
 use Rattle.rules.specs.Set.{with_completion_probe, with_input_horizon, with_started}
@@ -55,8 +55,8 @@ plain-each q f h (p ∷ ps) = if-true Plain (q p) (λ t. (h p, plain-each q f h 
 
 pub record Core : Type 0 where
   pub index : ℕ
-  pub completed : OptionalTag
-  pub completion_observed : OptionalNumber
+  pub completed : Option Tag
+  pub completion_observed : Option ℕ
 
 abbrev pub core : Participant → Core
 core p = record { index = p.index; completed = p.completed; completion_observed = p.completion_observed }
@@ -71,8 +71,8 @@ cores-map f h (p ∷ ps) = ap₂ {C = List Core} (λ (x : Core) (y : List Core).
 pub core_at : (e : ℕ) (f : Participant → Participant) → ((p : Participant) → core (f p) ≡ core p) → (p : Participant) → core (at e f p) ≡ core p
 core_at e f h p = if-true (λ (q : Participant). core q ≡ core p) (eqb p.index e) (λ t. h p) (λ t. refl)
 
-abbrev pub Kept : OptionalTag → OptionalTag → Type 0
-Kept m n = (f : Tag) → m ≡ At f → n ≡ At f
+abbrev pub Kept : Option Tag → Option Tag → Type 0
+Kept m n = (f : Tag) → m ≡ Some f → n ≡ Some f
 
 abbrev pub Same : State → State → Type 0
 Same s t = (t.completed_frontier ≡ s.completed_frontier) × (t.completion_generation ≡ s.completion_generation) × (cores t ≡ cores s) × Kept t.completion_probe s.completion_probe
@@ -80,7 +80,7 @@ Same s t = (t.completed_frontier ≡ s.completed_frontier) × (t.completion_gene
 pub same-trans : (s t u : State) → Same s t → Same t u → Same s u
 same-trans s t u h k = (k.0 ∙ h.0, k.1 ∙ h.1, k.2 ∙ h.2, λ f e. h.3 f (k.3 f e))
 
-no-probe : (n : OptionalTag) → Kept NoTag n
+no-probe : (n : Option Tag) → Kept None n
 no-probe n f e = let z : ◌≡◌ {A = ℕ} 0 1 = cc in absurd (absurd-num z)
   where
     absurd-num : ◌≡◌ {A = ℕ} 0 1 → ⊥
@@ -112,7 +112,7 @@ frame-active e s =
     if-true (Frame s) (is_stopped s) (λ t. (tt, calm)) (λ t. (((refl, refl), tt), same-trans s c (revise_of c) calm (same-revise c)))
   where
     c : State
-    c = with_completion_probe NoTag (only e unpublish s)
+    c = with_completion_probe None (only e unpublish s)
 
     calm : Same s c
     calm = (refl, refl, cores-map (at e unpublish) (core_at e unpublish (λ p. refl)) s.participants, no-probe s.completion_probe)
@@ -121,17 +121,17 @@ frame-stop : (s : State) → Frame s (stop_of s)
 unfolding stop_of
 frame-stop s = if-true (Frame s) (is_stopped s) (λ t. frame-quiet s) (λ t. (((refl, refl), tt), (refl, refl, refl, λ f e. e)))
 
-frame-failed : (e : OptionalEnclave) (s : State) → Frame s (fail_of e s)
+frame-failed : (e : Option ℕ) (s : State) → Frame s (fail_of e s)
 unfolding fail_of
 frame-failed e s = if-true (Frame s) (is_stopped s) (λ t. frame-quiet s) (λ t. (((refl, refl), tt), (refl, refl, refl, λ f e. e)))
 
 -- publish
 
-calm-probe : (m : OptionalTag) (l : LifecyclePolicy) (r : ℕ) → Plain (idle_probe m l r)
-calm-probe (At t) l r = tt
-calm-probe NoTag KeepAlive r = tt
-calm-probe NoTag TerminateWhenIdle r = ((refl, refl), tt)
-calm-probe NoTag CoordinatedTermination r = ((refl, refl), tt)
+calm-probe : (m : Option Tag) (l : LifecyclePolicy) (r : ℕ) → Plain (idle_probe m l r)
+calm-probe (Some t) l r = tt
+calm-probe None KeepAlive r = tt
+calm-probe None TerminateWhenIdle r = ((refl, refl), tt)
+calm-probe None CoordinatedTermination r = ((refl, refl), tt)
 
 calm-repeat : (h : CoordinationPhase) (r : ℕ) → Plain (repeated h r)
 calm-repeat Active r = tt
@@ -147,7 +147,7 @@ unfolding announce
 frame-announce e true s = (((refl, refl), ((refl, refl), calm-probe (least_candidate s) s.lifecycle s.revision)), (refl, refl, refl, λ f e. e))
 frame-announce e false s = (((refl, refl), calm-probe (least_candidate s) s.lifecycle s.revision), (refl, refl, refl, λ f e. e))
 
-frame-enlist : (e : ℕ) (c : OptionalTag) (b : Bool) (s : State) → Frame s (enlist e c b s)
+frame-enlist : (e : ℕ) (c : Option Tag) (b : Bool) (s : State) → Frame s (enlist e c b s)
 unfolding enlist
 frame-enlist e c b s =
     if-true (Frame s) (all_published t) (λ u. after s t (announce e b t) h (frame-announce e b t)) (λ u. (tt, h))
@@ -158,10 +158,10 @@ frame-enlist e c b s =
     h : Same s t
     h = same-every (at e (store c)) (core_at e (store c) (λ p. refl)) s
 
-frame-publish_by : (e : ℕ) (c : OptionalTag) (s : State) (o : Option Participant) → Frame s (publish_by e c s o)
+frame-publish_by : (e : ℕ) (c : Option Tag) (s : State) (o : Option Participant) → Frame s (publish_by e c s o)
 unfolding publish_by
-frame-publish_by e c s none = frame-quiet s
-frame-publish_by e c s (some p) =
+frame-publish_by e c s None = frame-quiet s
+frame-publish_by e c s (Some p) =
     if-true (Frame s) (same_optional p.candidate c)
     (λ t. if-true (Frame s) p.published (λ u. (calm-repeat s.phase s.revision, (refl, refl, refl, λ f e. e))) (λ u. frame-enlist e c false s))
     (λ t. after s (revise_of s) (enlist e c b (revise_of s)) (same-revise s) (frame-enlist e c b (revise_of s)))
@@ -169,7 +169,7 @@ frame-publish_by e c s (some p) =
     b : Bool
     b = not (is Active s)
 
-frame-publish : (e : ℕ) (c : OptionalTag) (s : State) → Frame s (publish_of e c s)
+frame-publish : (e : ℕ) (c : Option Tag) (s : State) → Frame s (publish_of e c s)
 unfolding publish_of
 frame-publish e c s = if-true (Frame s) (is_stopped s) (λ t. frame-quiet s) (λ t. frame-publish_by e c s (find e s.participants))
 
@@ -200,12 +200,12 @@ frame-acquire r t s =
     m : State
     m = stored r t s
 
-frame-sent_under : (h : OptionalTag) (r : ℕ) (n : OptionalTag) (s : State) → Frame s (sent_under h r n s)
+frame-sent_under : (h : Option Tag) (r : ℕ) (n : Option Tag) (s : State) → Frame s (sent_under h r n s)
 unfolding sent_under
-frame-sent_under NoTag r n s = frame-quiet s
-frame-sent_under (At h) r n s = if-true (Frame s) (is_at_or_below n h) (λ u. frame-acquire r h s) (λ u. frame-quiet s)
+frame-sent_under None r n s = frame-quiet s
+frame-sent_under (Some h) r n s = if-true (Frame s) (is_at_or_below n h) (λ u. frame-acquire r h s) (λ u. frame-quiet s)
 
-frame-sent : (r : ℕ) (n h : OptionalTag) (s : State) → Frame s (publication_sent_of r n h s)
+frame-sent : (r : ℕ) (n h : Option Tag) (s : State) → Frame s (publication_sent_of r n h s)
 unfolding publication_sent_of
 frame-sent r n h s = if-true (Frame s) (same_publication s.pending_publication r n h) (λ u. frame-sent_under s.grant_horizon r n s) (λ u. frame-quiet s)
 
@@ -252,9 +252,9 @@ frame-input : (es : List ℕ) (s : State) → Frame s (input_publishing_of es s)
 unfolding input_publishing_of
 frame-input es s = (tt, same-trans s (revise_of s) (every (noticed es) (revise_of s)) (same-revise s) (same-every (noticed es) (λ p. refl) (revise_of s)))
 
-same-begun : (h : OptionalTag) (e : ℕ) (t : Tag) (s : State) → Same s (begun h e t s)
-same-begun NoTag e t s = (refl, refl, refl, λ f e. e)
-same-begun (At c) e t s = same-every (at e (with_started (At t))) (core_at e (with_started (At t)) (λ p. refl)) s
+same-begun : (h : Option Tag) (e : ℕ) (t : Tag) (s : State) → Same s (begun h e t s)
+same-begun None e t s = (refl, refl, refl, λ f e. e)
+same-begun (Some c) e t s = same-every (at e (with_started (Some t))) (core_at e (with_started (Some t)) (λ p. refl)) s
 
 frame-begin : (e : ℕ) (t : Tag) (s : State) → Frame s (begin_tag_of e t s)
 unfolding begin_tag_of

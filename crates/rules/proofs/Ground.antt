@@ -1,17 +1,17 @@
 -- T2: Complete of f comes only when each enclave has completed f or later, or stands published with no candidate at or below f and has acknowledged the probe being answered.
+use Rattle.std.specs.Prelude.{None, Some, Option}
 use mathlib.Core.Path.{◌≡◌, refl, sym, ap, ◌∙◌, subst}
 use mathlib.Core.Logic.{◌⊎◌, inl, inr}
 use lib.Dec.{T}
 use Prim.Native.Nat.{ℕ}
 use mathlib.Core.Bool.{Bool, true, false, not, ◌&&◌, ◌||◌}
 use mathlib.Core.List.{List}
-use mathlib.Core.Option.{Option, none, some}
 use Rattle.tags.specs.Tags.{is_at_or_below, has_reached, is_below, same_optional}
 use Rattle.delay.specs.Delay.{answer}
 use Rattle.rules.specs.Calls.{call, facts, is_taken, own_step, take_step, then_advance}
 use Rattle.rules.specs.Completion.{advance_of, advance_to, all_answered, answers_probe, asks, blocks, complete_all, complete_by, complete_tag_of, finish, front_of, has_answered, is_held, lags, least_completed, next_generation, noted, observed_of, probe_for}
 use Rattle.rules.specs.Demands.{Each, Stands, completes}
-use Rattle.rules.specs.Model.{At, Call, Given, NoTag, Number, OptionalTag, Participant, State, Step, Tag}
+use Rattle.rules.specs.Model.{Call, Given, Participant, State, Step, Tag}
 use Rattle.rules.specs.Walk.{any, find, is_number, is_stopped}
 use Rattle.rules.proofs.Frame.{Frame, Kept, completes-each, if-true, own-cases, plain-completes}
 use Rattle.rules.proofs.Increase.{completes-++}
@@ -35,15 +35,15 @@ justified-complete e t n s = if-true (Justified s) (is_stopped s) (λ u. tt) (λ
     s' : State
     s' = noted e t n s
 
-    all_have : (m : OptionalTag) → least_completed s'.participants ≡ m → Justified s (complete_all m s')
-    all_have NoTag q = tt
-    all_have (At m) q =
+    all_have : (m : Option Tag) → least_completed s'.participants ≡ m → Justified s (complete_all m s')
+    all_have None q = tt
+    all_have (Some m) q =
         if-true (Justified s) (is_below s.completed_frontier m)
         (λ u. (each_map (λ p. T (has_reached p.completed m)) (Ready s m) (λ p h. inl h) s'.participants (least-reached s'.participants m q), tt)) (λ u. tt)
 
     go : (o : Option Participant) → Justified s (complete_by e t n s o)
-    go none = tt
-    go (some p) = if-true (Justified s) (is_below p.completed t) (λ u. all_have (least_completed s'.participants) refl) (λ u. tt)
+    go None = tt
+    go (Some p) = if-true (Justified s) (is_below p.completed t) (λ u. all_have (least_completed s'.participants) refl) (λ u. tt)
 
 -- the four tests on an enclave, by cases
 four : (lag shown cand answer : Bool) → T (not (lag && (not shown || cand))) → T (not lag || answer) → T (not lag) ⊎ (T shown × T (not cand) × T answer)
@@ -52,19 +52,19 @@ four true true true answer h k = absurd h
 four true true false answer h k = inr (tt, tt, k)
 four true false cand answer h k = absurd h
 
-ready : (s : State) (f : Tag) → s.completion_probe ≡ At f → (p : Participant) → T (not (blocks f p)) → T (has_answered f s.completion_generation p) → Ready s f p
+ready : (s : State) (f : Tag) → s.completion_probe ≡ Some f → (p : Participant) → T (not (blocks f p)) → T (has_answered f s.completion_generation p) → Ready s f p
 ready s f e p h k = go (four (lags f p) p.published (is_at_or_below p.candidate f) (is_number p.completion_observed s.completion_generation) h k)
   where
     go : T (not (lags f p)) ⊎ (T p.published × T (not (is_at_or_below p.candidate f)) × T (is_number p.completion_observed s.completion_generation)) → Ready s f p
     go (inl x) = inl x
     go (inr x) = inr (record { probed = e; published = x.0; beyond = x.1; acknowledged = is_number-is p.completion_observed s.completion_generation x.2 })
 
-justified-advance_to : (m : OptionalTag) (s : State) → Justified s (advance_to m s)
+justified-advance_to : (m : Option Tag) (s : State) → Justified s (advance_to m s)
 unfolding advance_to finish probe_for
-justified-advance_to NoTag s = tt
-justified-advance_to (At f) s =
+justified-advance_to None s = tt
+justified-advance_to (Some f) s =
     if-true (Justified s) (is_held f s) (λ u. tt)
-    (λ u. if-true (Justified s) (same_optional s.completion_probe (At f))
+    (λ u. if-true (Justified s) (same_optional s.completion_probe (Some f))
     (λ v. if-true (Justified s) (all_answered f s)
     (λ w. (
       each-zip (λ p. T (not (blocks f p))) (λ p. T (has_answered f s.completion_generation p)) (Ready s f) (ready s f (same-is s.completion_probe f v)) s.participants
@@ -80,12 +80,12 @@ unfolding advance_of
 justified-advance s = if-true (Justified s) (is_stopped s) (λ u. tt) (λ u. justified-advance_to (front_of s) s)
 
 -- advance leaves the participants alone
-advance_to-participants : (m : OptionalTag) (s : State) → (advance_to m s).state.participants ≡ s.participants
+advance_to-participants : (m : Option Tag) (s : State) → (advance_to m s).state.participants ≡ s.participants
 unfolding advance_to finish probe_for
-advance_to-participants NoTag s = refl
-advance_to-participants (At f) s =
+advance_to-participants None s = refl
+advance_to-participants (Some f) s =
     if-true P (is_held f s) (λ u. refl)
-    (λ u. if-true P (same_optional s.completion_probe (At f)) (λ v. if-true P (all_answered f s) (λ w. refl) (λ w. refl)) (λ v. refl))
+    (λ u. if-true P (same_optional s.completion_probe (Some f)) (λ v. if-true P (all_answered f s) (λ w. refl) (λ w. refl)) (λ v. refl))
   where
     P : Step → Type 0
     P o = o.state.participants ≡ s.participants
@@ -105,13 +105,13 @@ linked-complete e t n s = if-true P (is_stopped s) (λ u. (refl, λ f q. q)) (λ
     P : Step → Type 0
     P o = Linked s o.state
 
-    all_have : (m : OptionalTag) → P (complete_all m (noted e t n s))
-    all_have NoTag = (refl, λ f q. q)
-    all_have (At m) = if-true P (is_below s.completed_frontier m) (λ u. (refl, λ f q. q)) (λ u. (refl, λ f q. q))
+    all_have : (m : Option Tag) → P (complete_all m (noted e t n s))
+    all_have None = (refl, λ f q. q)
+    all_have (Some m) = if-true P (is_below s.completed_frontier m) (λ u. (refl, λ f q. q)) (λ u. (refl, λ f q. q))
 
     go : (o : Option Participant) → P (complete_by e t n s o)
-    go none = (refl, λ f q. q)
-    go (some p) = if-true P (is_below p.completed t) (λ u. all_have (least_completed (noted e t n s).participants)) (λ u. (refl, λ f q. q))
+    go None = (refl, λ f q. q)
+    go (Some p) = if-true P (is_below p.completed t) (λ u. all_have (least_completed (noted e t n s).participants)) (λ u. (refl, λ f q. q))
 
 linked-observed : (e g : ℕ) (s : State) → Linked s (observed_of e g s).state
 unfolding observed_of
@@ -130,7 +130,7 @@ justified-own c s = own-cases (Justified s) s (justified-frame s) (λ e t n. jus
 ready-back : (s t : State) → Linked s t → (f : Tag) (p : Participant) → Ready t f p → Ready s f p
 ready-back s t h f p (inl x) = inl x
 ready-back s t h f p (inr x) =
-    inr (record { probed = h.1 f x.probed; published = x.published; beyond = x.beyond; acknowledged = x.acknowledged ∙ ap Number h.0 })
+    inr (record { probed = h.1 f x.probed; published = x.published; beyond = x.beyond; acknowledged = x.acknowledged ∙ ap Some h.0 })
 
 justified-also : (s : State) (a : Step) → Linked s a.state → Justified s a → Justified s (then_advance a)
 justified-also s a l h =

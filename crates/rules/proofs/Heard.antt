@@ -1,11 +1,11 @@
 -- `CompleteIsGrounded`: what the call itself shows (proofs/Ground.antt), and that every acknowledgement it counts was heard while this very probe
 -- was out. A stored acknowledgement comes from a taken `observed` of the generation then current; the generation never falls, and while it stays the
 -- probe is kept or cleared, so the probe that is out now was out then. Assumes nothing.
+use Rattle.std.specs.Prelude.{None, Some, Option}
 use mathlib.Core.Path.{◌≡◌, refl, sym, ap, ap₂, ◌∙◌, subst}
 use mathlib.Core.Logic.{◌⊎◌, inl, inr}
 use mathlib.Core.Bool.{Bool}
 use mathlib.Core.List.{List, [], ◌∷◌, ◌++◌}
-use mathlib.Core.Option.{Option, none, some}
 use Prim.Native.Nat.{ℕ, ◌≤◌}
 use native.Mathlib.Nat.{le_trans, le_antisymm}
 use native.Mathlib.Omega.{arith}
@@ -14,7 +14,7 @@ use Rattle.tags.specs.Tags.{is_below, is_present, same_optional}
 use Rattle.rules.specs.Calls.{call, facts, is_taken, own_step, run_calls, take_step}
 use Rattle.rules.specs.Completion.{advance_of, advance_to, all_answered, answers_probe, complete_all, complete_by, complete_tag_of, finish, front_of, is_held, least_completed, next_generation, noted, observed_of, probe_for}
 use Rattle.rules.specs.Demands.{Acknowledges, CompleteIsGrounded, Each, Grounded, Heard, Opening, completes, start, state_after}
-use Rattle.rules.specs.Model.{At, Call, Given, NoNumber, NoTag, Number, OptionalNumber, OptionalTag, Participant, State, Step, Tag, complete, observed}
+use Rattle.rules.specs.Model.{Call, Given, Participant, State, Step, Tag, complete, observed}
 use Rattle.rules.specs.Opening.{insert, opened, seated}
 use Rattle.rules.specs.Set.{with_completed, with_completion_observed}
 use Rattle.rules.specs.Walk.{at, find, is_stopped, only}
@@ -37,18 +37,18 @@ forward-trans s t u h k = (le_trans h.0 k.0, through)
     through : u.completion_generation ≡ s.completion_generation → Kept u.completion_probe s.completion_probe
     through q f e = h.1 (le_antisymm (subst (λ (n : ℕ). t.completion_generation ≤ n) q k.0) h.0) f (k.1 (le_antisymm (subst (λ (n : ℕ). n ≤ t.completion_generation) (sym q) h.0) k.0) f e)
 
-forward-advance_to : (m : OptionalTag) (s : State) → Forward s (advance_to m s).state
+forward-advance_to : (m : Option Tag) (s : State) → Forward s (advance_to m s).state
 unfolding advance_to finish probe_for
-forward-advance_to NoTag s = forward-same s s refl (λ f e. e)
-forward-advance_to (At f) s =
+forward-advance_to None s = forward-same s s refl (λ f e. e)
+forward-advance_to (Some f) s =
     if-true P (is_held f s) (λ u. cleared)
-    (λ u. if-true P (same_optional s.completion_probe (At f)) (λ v. if-true P (all_answered f s) (λ w. cleared) (λ w. forward-same s s refl (λ g e. e)))
+    (λ u. if-true P (same_optional s.completion_probe (Some f)) (λ v. if-true P (all_answered f s) (λ w. cleared) (λ w. forward-same s s refl (λ g e. e)))
     (λ v. (omega arith, λ q. absurd (raised q))))
   where
     P : Step → Type 0
     P o = Forward s o.state
 
-    cleared : (s.completion_generation ≤ s.completion_generation) × (s.completion_generation ≡ s.completion_generation → Kept NoTag s.completion_probe)
+    cleared : (s.completion_generation ≤ s.completion_generation) × (s.completion_generation ≡ s.completion_generation → Kept None s.completion_probe)
     cleared = (omega arith, λ q g e. no-at e)
 
     raised : next_generation s.completion_generation ≡ s.completion_generation → ⊥
@@ -83,10 +83,10 @@ forward-run (g ∷ gs) s = forward-trans s t (run_calls gs t).state (forward-cal
 
 -- what X says of every acknowledgement that is stored
 abbrev Acked : (ℕ → ℕ → Type 0) → List Participant → Type 0
-Acked X ps = Each (λ p. (n : ℕ) → p.completion_observed ≡ Number n → X p.index n) ps
+Acked X ps = Each (λ p. (n : ℕ) → p.completion_observed ≡ Some n → X p.index n) ps
 
 acked-mono : (X Y : ℕ → ℕ → Type 0) → ((e n : ℕ) → X e n → Y e n) → (ps : List Participant) → Acked X ps → Acked Y ps
-acked-mono X Y m ps h = each_map (λ p. (n : ℕ) → p.completion_observed ≡ Number n → X p.index n) (λ p. (n : ℕ) → p.completion_observed ≡ Number n → Y p.index n) (λ p k n q. m p.index n (k n q)) ps h
+acked-mono X Y m ps h = each_map (λ p. (n : ℕ) → p.completion_observed ≡ Some n → X p.index n) (λ p. (n : ℕ) → p.completion_observed ≡ Some n → Y p.index n) (λ p k n q. m p.index n (k n q)) ps h
 
 -- the call c, in s, acknowledges the generation that is current
 abbrev Says : Call → State → ℕ → ℕ → Type 0
@@ -97,7 +97,7 @@ abbrev Or : (ℕ → ℕ → Type 0) → Call → State → ℕ → ℕ → Type
 Or X c s e n = X e n ⊎ Says c s e n
 
 acked-frame : (X : ℕ → ℕ → Type 0) (s : State) (o : Step) → Frame s o → Acked X s.participants → Acked X o.state.participants
-acked-frame X s o h k = each-cores (λ c. (n : ℕ) → c.completion_observed ≡ Number n → X c.index n) s.participants o.state.participants (sym h.1.2) k
+acked-frame X s o h k = each-cores (λ c. (n : ℕ) → c.completion_observed ≡ Some n → X c.index n) s.participants o.state.participants (sym h.1.2) k
 
 acked-complete : (X : ℕ → ℕ → Type 0) (s : State) → Acked X s.participants → (e : ℕ) (t : Tag) (n : Bool) → Acked X (complete_tag_of e t n s).state.participants
 unfolding complete_tag_of complete_by complete_all finish
@@ -107,22 +107,22 @@ acked-complete X s v e t n = if-true P (is_stopped s) (λ u. v) (λ u. go (find 
     P o = Acked X o.state.participants
 
     C : Participant → Type 0
-    C p = (n : ℕ) → p.completion_observed ≡ Number n → X p.index n
+    C p = (n : ℕ) → p.completion_observed ≡ Some n → X p.index n
 
     w : Acked X (noted e t n s).participants
-    w = each-onto C C (at e (with_completed (At t))) (λ p k. if-true C (eqb p.index e) (λ u. k) (λ u. k)) s.participants v
+    w = each-onto C C (at e (with_completed (Some t))) (λ p k. if-true C (eqb p.index e) (λ u. k) (λ u. k)) s.participants v
 
-    all_have : (m : OptionalTag) → P (complete_all m (noted e t n s))
-    all_have NoTag = w
-    all_have (At m) = if-true P (is_below s.completed_frontier m) (λ u. w) (λ u. w)
+    all_have : (m : Option Tag) → P (complete_all m (noted e t n s))
+    all_have None = w
+    all_have (Some m) = if-true P (is_below s.completed_frontier m) (λ u. w) (λ u. w)
 
     go : (o : Option Participant) → P (complete_by e t n s o)
-    go none = v
-    go (some p) = if-true P (is_below p.completed t) (λ u. all_have (least_completed (noted e t n s).participants)) (λ u. v)
+    go None = v
+    go (Some p) = if-true P (is_below p.completed t) (λ u. all_have (least_completed (noted e t n s).participants)) (λ u. v)
 
-number_in : OptionalNumber → ℕ
-number_in NoNumber = 0
-number_in (Number n) = n
+number_in : Option ℕ → ℕ
+number_in None = 0
+number_in (Some n) = n
 
 acked-observed : (X : ℕ → ℕ → Type 0) (s : State) → Acked X s.participants → (e g : ℕ) → Acked (Or X (observed e g) s) (observed_of e g s).state.participants
 unfolding observed_of number_in
@@ -132,15 +132,15 @@ acked-observed X s v e g = if-true (λ (o : Step). Acked Y o.state.participants)
     Y = Or X (observed e g) s
 
     C : Participant → Type 0
-    C p = (n : ℕ) → p.completion_observed ≡ Number n → X p.index n
+    C p = (n : ℕ) → p.completion_observed ≡ Some n → X p.index n
 
     D : Participant → Type 0
-    D p = (n : ℕ) → p.completion_observed ≡ Number n → Y p.index n
+    D p = (n : ℕ) → p.completion_observed ≡ Some n → Y p.index n
 
-    new : T (answers_probe g s) → Acked Y (only e (with_completion_observed (Number g)) s).participants
-    new u = each-onto C D (at e (with_completion_observed (Number g))) (λ p k. if-true D (eqb p.index e) (λ y. this p y) (λ y n q. inl (k n q))) s.participants v
+    new : T (answers_probe g s) → Acked Y (only e (with_completion_observed (Some g)) s).participants
+    new u = each-onto C D (at e (with_completion_observed (Some g))) (λ p k. if-true D (eqb p.index e) (λ y. this p y) (λ y n q. inl (k n q))) s.participants v
       where
-        this : (p : Participant) → T (eqb p.index e) → D (with_completion_observed (Number g) p)
+        this : (p : Participant) → T (eqb p.index e) → D (with_completion_observed (Some g) p)
         this p y n q = inr (
           ap₂ observed (sym (eqb→eq p.index e y)) (ap number_in q),
           sym (ap number_in q) ∙ eqb→eq g s.completion_generation (and_right (is_present s.completion_probe) (eqb g s.completion_generation) u),
@@ -176,7 +176,7 @@ acked-call X g s v =
 
 -- of the acknowledgements in z that are of its generation, while the probe for f is out there: known to X, or heard in the run
 abbrev Told : (ℕ → ℕ → Type 0) → List Given → State → State → ℕ → ℕ → Type 0
-Told X gs s z e n = (f : Tag) → n ≡ z.completion_generation → z.completion_probe ≡ At f → X e n ⊎ Heard f gs s e n
+Told X gs s z e n = (f : Tag) → n ≡ z.completion_generation → z.completion_probe ≡ Some f → X e n ⊎ Heard f gs s e n
 
 told-run : (X : ℕ → ℕ → Type 0) (gs : List Given) (s : State) → Acked X s.participants → Acked (Told X gs s (run_calls gs s).state) (run_calls gs s).state.participants
 unfolding run_calls
@@ -192,7 +192,7 @@ told-run X (g ∷ gs) s v = acked-mono (Told (Next X g s) gs t z) (Told X (g ∷
     ahead : Forward s z
     ahead = forward-trans s t z (forward-call g s) (forward-run gs t)
 
-    place : (e n : ℕ) (f : Tag) → n ≡ z.completion_generation → z.completion_probe ≡ At f → Next X g s e n ⊎ Heard f gs t e n → X e n ⊎ Heard f (g ∷ gs) s e n
+    place : (e n : ℕ) (f : Tag) → n ≡ z.completion_generation → z.completion_probe ≡ Some f → Next X g s e n ⊎ Heard f gs t e n → X e n ⊎ Heard f (g ∷ gs) s e n
     place e n f q r (inl (inl x)) = inl x
     place e n f q r (inl (inr x)) = inr (inl (x.0, record { says = x.1.0; out = ahead.1 (sym q ∙ x.1.1) f r; current = x.1.1 }))
     place e n f q r (inr x) = inr (inr x)
@@ -205,12 +205,12 @@ told-run X (g ∷ gs) s v = acked-mono (Told (Next X g s) gs t z) (Told X (g ∷
 nothing : ℕ → ℕ → Type 0
 nothing e n = ⊥
 
-no_number : {n : ℕ} → NoNumber ≡ Number n → ⊥
+no_number : {n : ℕ} → None ≡ Some n → ⊥
 no_number q = subst absent q tt
   where
-    absent : OptionalNumber → Type 0
-    absent NoNumber = Unit {0}
-    absent (Number n) = ⊥
+    absent : Option ℕ → Type 0
+    absent None = Unit {0}
+    absent (Some n) = ⊥
 
 acked-insert : (e : ℕ) (ps : List Participant) → Acked nothing ps → Acked nothing (insert e ps)
 unfolding nothing
@@ -253,13 +253,13 @@ complete-is-grounded o before now =
     X = Told nothing before (start o) s
 
     C : Participant → Type 0
-    C p = (n : ℕ) → p.completion_observed ≡ Number n → Next X now s p.index n
+    C p = (n : ℕ) → p.completion_observed ≡ Some n → Next X now s p.index n
 
     known : (f : Tag) (e : ℕ) → nothing e s.completion_generation ⊎ Heard f before (start o) e s.completion_generation → Heard f (before ++ now ∷ []) (start o) e s.completion_generation
     known f e (inl x) = absurd x
     known f e (inr x) = heard-more f before now (start o) e s.completion_generation x
 
-    heard : (f : Tag) (e : ℕ) → s.completion_probe ≡ At f → Next X now s e s.completion_generation → Heard f (before ++ now ∷ []) (start o) e s.completion_generation
+    heard : (f : Tag) (e : ℕ) → s.completion_probe ≡ Some f → Next X now s e s.completion_generation → Heard f (before ++ now ∷ []) (start o) e s.completion_generation
     heard f e r (inl x) = known f e (x f refl r)
     heard f e r (inr x) = heard-last f before now (start o) e s.completion_generation (x.0, record { says = x.1.0; out = r; current = refl })
 

@@ -1,4 +1,5 @@
 -- Walks over lists of participants: from the tests to the facts about each.
+use Rattle.std.specs.Prelude.{None, Option, Some}
 use mathlib.Core.Path.{◌≡◌, sym, ap, subst}
 use lib.Dec.{T, eqb→eq}
 use Prim.Native.Nat.{ℕ}
@@ -8,7 +9,7 @@ use Rattle.tags.specs.Tags.{◌≤ₜ◌, has_reached, is_present, lesser_of, le
 use Rattle.tags.proofs.Order.{≤ₜ-anti, ≤ₜ-refl, ≤ₜ-total, ≤ₜ-trans}
 use Rattle.rules.specs.Completion.{least_completed}
 use Rattle.rules.specs.Demands.{Each}
-use Rattle.rules.specs.Model.{At, NoNumber, NoTag, Number, OptionalNumber, OptionalTag, Participant, Tag}
+use Rattle.rules.specs.Model.{Participant, Tag}
 use Rattle.rules.specs.Walk.{all, any, is_number, least_of}
 use Rattle.rules.proofs.Frame.{if-true}
 use Rattle.rules.proofs.Increase.{or_left}
@@ -53,33 +54,33 @@ none_each q (p ∷ ps) h = (or_left (q p) (any q ps) h, none_each q ps (or_right
 
 -- ---- optional tags
 
-abbrev present : OptionalTag → Type 0
-present NoTag = ⊥
-present (At a) = Unit {0}
+abbrev present : Option Tag → Type 0
+present None = ⊥
+present (Some a) = Unit {0}
 
-pub no-at : {X : Type 0} {f : Tag} → NoTag ≡ At f → X
+pub no-at : {X : Type 0} {f : Tag} → None ≡ Some f → X
 no-at e = absurd (subst present (sym e) tt)
 
-abbrev tag_in : Tag → OptionalTag → Tag
-tag_in d NoTag = d
-tag_in d (At a) = a
+abbrev tag_in : Tag → Option Tag → Tag
+tag_in d None = d
+tag_in d (Some a) = a
 
-pub at-inj : {a b : Tag} → At a ≡ At b → a ≡ b
+pub at-inj : {a b : Tag} → Some a ≡ Some b → a ≡ b
 at-inj {a} e = ap (tag_in a) e
 
-pub same-is : (m : OptionalTag) (f : Tag) → T (same_optional m (At f)) → m ≡ At f
-same-is NoTag f h = absurd h
-same-is (At a) f h = ap At (≤ₜ-anti a f (and_left (a ≤ₜ f) (f ≤ₜ a) h) (and_right (a ≤ₜ f) (f ≤ₜ a) h))
+pub same-is : (m : Option Tag) (f : Tag) → T (same_optional m (Some f)) → m ≡ Some f
+same-is None f h = absurd h
+same-is (Some a) f h = ap Some (≤ₜ-anti a f (and_left (a ≤ₜ f) (f ≤ₜ a) h) (and_right (a ≤ₜ f) (f ≤ₜ a) h))
 
-pub is_number-is : (m : OptionalNumber) (g : ℕ) → T (is_number m g) → m ≡ Number g
-is_number-is NoNumber g h = absurd h
-is_number-is (Number n) g h = ap Number (eqb→eq n g h)
+pub is_number-is : (m : Option ℕ) (g : ℕ) → T (is_number m g) → m ≡ Some g
+is_number-is None g h = absurd h
+is_number-is (Some n) g h = ap Some (eqb→eq n g h)
 
 -- m is the least of some tags among which c, if present, is
-abbrev pub Least : OptionalTag → OptionalTag → Type 0
-Least m NoTag = Unit {0}
-Least NoTag (At c) = ⊥
-Least (At m) (At c) = T (m ≤ₜ c)
+abbrev pub Least : Option Tag → Option Tag → Type 0
+Least m None = Unit {0}
+Least None (Some c) = ⊥
+Least (Some m) (Some c) = T (m ≤ₜ c)
 
 pub lesser-left : (a b : Tag) → T (lesser_of a b ≤ₜ a)
 lesser-left a b = if-true (λ (x : Tag). T (x ≤ₜ a)) (a ≤ₜ b) (λ h. ≤ₜ-refl a) (λ h. ≤ₜ-total a b h)
@@ -87,31 +88,31 @@ lesser-left a b = if-true (λ (x : Tag). T (x ≤ₜ a)) (a ≤ₜ b) (λ h. ≤
 lesser-right : (a b : Tag) → T (lesser_of a b ≤ₜ b)
 lesser-right a b = if-true (λ (x : Tag). T (x ≤ₜ b)) (a ≤ₜ b) (λ h. h) (λ h. ≤ₜ-refl b)
 
-least-head : (m r : OptionalTag) → Least (lesser_present m r) m
-least-head NoTag r = tt
-least-head (At a) NoTag = ≤ₜ-refl a
-least-head (At a) (At b) = lesser-left a b
+least-head : (m r : Option Tag) → Least (lesser_present m r) m
+least-head None r = tt
+least-head (Some a) None = ≤ₜ-refl a
+least-head (Some a) (Some b) = lesser-left a b
 
-least-tail : (m r c : OptionalTag) → Least r c → Least (lesser_present m r) c
-least-tail m r NoTag h = tt
-least-tail m NoTag (At c) h = absurd h
-least-tail NoTag (At r) (At c) h = h
-least-tail (At m) (At r) (At c) h = ≤ₜ-trans (lesser_of m r) r c (lesser-right m r) h
+least-tail : (m r c : Option Tag) → Least r c → Least (lesser_present m r) c
+least-tail m r None h = tt
+least-tail m None (Some c) h = absurd h
+least-tail None (Some r) (Some c) h = h
+least-tail (Some m) (Some r) (Some c) h = ≤ₜ-trans (lesser_of m r) r c (lesser-right m r) h
 
-pub least-each : (f : Participant → OptionalTag) (ps : List Participant) → Each (λ p. Least (least_of f ps) (f p)) ps
+pub least-each : (f : Participant → Option Tag) (ps : List Participant) → Each (λ p. Least (least_of f ps) (f p)) ps
 least-each f [] = tt
 least-each f (p ∷ ps) =
     (least-head (f p) (least_of f ps), each_map (λ q. Least (least_of f ps) (f q)) (λ q. Least (lesser_present (f p) (least_of f ps)) (f q)) (λ q. least-tail (f p) (least_of f ps) (f q)) ps (least-each f ps))
 
-reached-of : (m : Tag) (c : OptionalTag) → T (is_present c) → Least (At m) c → T (has_reached c m)
-reached-of m NoTag p h = absurd p
-reached-of m (At c) p h = not-not-intro (m ≤ₜ c) h
+reached-of : (m : Tag) (c : Option Tag) → T (is_present c) → Least (Some m) c → T (has_reached c m)
+reached-of m None p h = absurd p
+reached-of m (Some c) p h = not-not-intro (m ≤ₜ c) h
 
-pub least-reached : (ps : List Participant) (m : Tag) → least_completed ps ≡ At m → Each (λ p. T (has_reached p.completed m)) ps
-least-reached ps m = if-true (λ (x : OptionalTag). x ≡ At m → Each (λ p. T (has_reached p.completed m)) ps) (all (λ p. is_present p.completed) ps) yes-all (λ h e. no-at e)
+pub least-reached : (ps : List Participant) (m : Tag) → least_completed ps ≡ Some m → Each (λ p. T (has_reached p.completed m)) ps
+least-reached ps m = if-true (λ (x : Option Tag). x ≡ Some m → Each (λ p. T (has_reached p.completed m)) ps) (all (λ p. is_present p.completed) ps) yes-all (λ h e. no-at e)
   where
-    yes-all : T (all (λ p. is_present p.completed) ps) → least_of (λ p. p.completed) ps ≡ At m → Each (λ p. T (has_reached p.completed m)) ps
+    yes-all : T (all (λ p. is_present p.completed) ps) → least_of (λ p. p.completed) ps ≡ Some m → Each (λ p. T (has_reached p.completed m)) ps
     yes-all h e =
-        each-zip (λ p. T (is_present p.completed)) (λ p. Least (At m) p.completed) (λ p. T (has_reached p.completed m)) (λ p. reached-of m p.completed) ps
+        each-zip (λ p. T (is_present p.completed)) (λ p. Least (Some m) p.completed) (λ p. T (has_reached p.completed m)) (λ p. reached-of m p.completed) ps
         (all-each (λ p. is_present p.completed) ps h)
-        (subst (λ (x : OptionalTag). Each (λ p. Least x p.completed) ps) e (least-each (λ p. p.completed) ps))
+        (subst (λ (x : Option Tag). Each (λ p. Least x p.completed) ps) e (least-each (λ p. p.completed) ps))

@@ -1,10 +1,11 @@
 -- No state reached from an opening is refused 27. `is_sound` is taken into named parts and put together again after each rule: a rule changes the
 -- participants by a map that keeps each index and sets tags that were given proper, are absent, or are one of two proper ones. Assumes nothing.
+use Rattle.std.specs.Prelude.{None, Some, Option}
+use Rattle.records.specs.declared.FederatePublication.{FederatePublication}
 use mathlib.Core.Path.{◌≡◌, refl, ap, ◌∙◌, subst, ap₂}
 use mathlib.Core.Logic.{◌↔◌}
 use mathlib.Core.Bool.{Bool, true, false, not, cond, ◌&&◌}
 use mathlib.Core.List.{List, [], ◌∷◌, map}
-use mathlib.Core.Option.{Option, none, some}
 use native.Mathlib.Omega.{arith}
 use Prim.Native.Nat.{ℕ, suc, ◌≤◌}
 use lib.Dec.{T, leb, ltb, eqb, leb→le, le→leb, ltb→lt, lt→ltb, nltb→le, eqb_refl, T_not}
@@ -15,7 +16,7 @@ use Rattle.rules.specs.Calls.{all_proper, ascending, call, facts, is_sound, is_t
 use Rattle.rules.specs.Completion.{advance_of, advance_to, all_answered, answers_probe, complete_all, complete_by, complete_tag_of, finish, front_of, inputs_left, is_held, least_completed, noted, observed_of, probe_for, widened}
 use Rattle.rules.specs.Demands.{CallKeepsSound, Each, Opening, OpeningIsSound, start, state_after}
 use Rattle.rules.specs.Gate.{begin_tag_of, begun, input_publishing_of, may_begin, noticed}
-use Rattle.rules.specs.Model.{Active, At, Call, Counts, Given, HasParked, Ignored, Inputs, NoInputs, NoTag, NoneStored, Number, Observation, OptionalAcquisition, OptionalEnclave, OptionalInputs, OptionalPublication, OptionalTag, Participant, Pending, Probed, Rechecked, Refused, State, Step, Stored, Tag, Verdict, acquire, active, begin, complete, done, failed, horizon, idle, input, late, observe, observed, progress, publish, sent, stop, stopped}
+use Rattle.rules.specs.Model.{Active, Call, Counts, Given, HasParked, Ignored, Inputs, NoInputs, NoneStored, Observation, OptionalAcquisition, OptionalInputs, Participant, Probed, Rechecked, Refused, State, Step, Stored, Tag, Verdict, acquire, active, begin, complete, done, failed, horizon, idle, input, late, observe, observed, progress, publish, sent, stop, stopped}
 use Rattle.rules.specs.Observation.{agreed, all_observed, awaits, idle_confirmation_of, lacks_authorization, observation_of, observe_by, observed_already, observes, tally, unheard, verdict_of}
 use Rattle.rules.specs.Opening.{fresh, insert, opened, opening_refusal, opening_walk, seated}
 use Rattle.rules.specs.Publication.{activate_of, all_published, announce, deactivated, enlist, forget, least_candidate, publication_of, publish_by, publish_of, revise_of, store, unpublish}
@@ -28,7 +29,7 @@ use Rattle.rules.proofs.Invariants.{all_of, and_intro, each-onto, seated-each}
 use Rattle.rules.proofs.Lists.{all-each, and_left, and_right, each_map, or_right}
 use Rattle.rules.proofs.Refusal.{taken-passed}
 
-abbrev Proper : OptionalTag → Type 0
+abbrev Proper : Option Tag → Type 0
 Proper m = T (proper_if_present m)
 
 and_parts : (a b : Bool) → T (a && b) ↔ (T a × T b)
@@ -44,7 +45,7 @@ record Seating (ps : List Participant) : Type 0 where
   proper : Each (λ p. T (proper_participant p)) ps
 
 -- of the whole, over the fields that it speaks of alone: so it is the same at two states that differ in others
-record SoundParts (ps : List Participant) (h f b c : OptionalTag) (p : OptionalPublication) (i : OptionalInputs) (a : OptionalAcquisition) : Type 0 where
+record SoundParts (ps : List Participant) (h f b c : Option Tag) (p : Option FederatePublication) (i : OptionalInputs) (a : OptionalAcquisition) : Type 0 where
   seats : Seating ps
   horizon : Proper h
   frontier : Proper f
@@ -84,23 +85,23 @@ sound-whole s v =
     ((((((((((q.filled, q.few), q.ascends), each-proper), v.horizon), v.frontier), v.probe), v.input_horizon), v.publication), v.inputs), v.acquisition)
 
 -- one part set anew
-module _ {ps : List Participant} {h f b c : OptionalTag} {p : OptionalPublication} {i : OptionalInputs} {a : OptionalAcquisition} where
+module _ {ps : List Participant} {h f b c : Option Tag} {p : Option FederatePublication} {i : OptionalInputs} {a : OptionalAcquisition} where
   with-seats : {x : List Participant} → Seating x → SoundParts ps h f b c p i a → SoundParts x h f b c p i a
   with-seats k v = record { seats = k; horizon = v.horizon; frontier = v.frontier; probe = v.probe; input_horizon = v.input_horizon; publication = v.publication; inputs = v.inputs; acquisition = v.acquisition }
 
-  with-horizon : {x : OptionalTag} → Proper x → SoundParts ps h f b c p i a → SoundParts ps x f b c p i a
+  with-horizon : {x : Option Tag} → Proper x → SoundParts ps h f b c p i a → SoundParts ps x f b c p i a
   with-horizon k v = record { seats = v.seats; horizon = k; frontier = v.frontier; probe = v.probe; input_horizon = v.input_horizon; publication = v.publication; inputs = v.inputs; acquisition = v.acquisition }
 
-  with-frontier : {x : OptionalTag} → Proper x → SoundParts ps h f b c p i a → SoundParts ps h x b c p i a
+  with-frontier : {x : Option Tag} → Proper x → SoundParts ps h f b c p i a → SoundParts ps h x b c p i a
   with-frontier k v = record { seats = v.seats; horizon = v.horizon; frontier = k; probe = v.probe; input_horizon = v.input_horizon; publication = v.publication; inputs = v.inputs; acquisition = v.acquisition }
 
-  with-probe : {x : OptionalTag} → Proper x → SoundParts ps h f b c p i a → SoundParts ps h f x c p i a
+  with-probe : {x : Option Tag} → Proper x → SoundParts ps h f b c p i a → SoundParts ps h f x c p i a
   with-probe k v = record { seats = v.seats; horizon = v.horizon; frontier = v.frontier; probe = k; input_horizon = v.input_horizon; publication = v.publication; inputs = v.inputs; acquisition = v.acquisition }
 
-  with-input-horizon : {x : OptionalTag} → Proper x → SoundParts ps h f b c p i a → SoundParts ps h f b x p i a
+  with-input-horizon : {x : Option Tag} → Proper x → SoundParts ps h f b c p i a → SoundParts ps h f b x p i a
   with-input-horizon k v = record { seats = v.seats; horizon = v.horizon; frontier = v.frontier; probe = v.probe; input_horizon = k; publication = v.publication; inputs = v.inputs; acquisition = v.acquisition }
 
-  with-publication : {x : OptionalPublication} → T (proper_publication x) → SoundParts ps h f b c p i a → SoundParts ps h f b c x i a
+  with-publication : {x : Option FederatePublication} → T (proper_publication x) → SoundParts ps h f b c p i a → SoundParts ps h f b c x i a
   with-publication k v = record { seats = v.seats; horizon = v.horizon; frontier = v.frontier; probe = v.probe; input_horizon = v.input_horizon; publication = k; inputs = v.inputs; acquisition = v.acquisition }
 
   with-inputs : {x : OptionalInputs} → T (proper_inputs x) → SoundParts ps h f b c p i a → SoundParts ps h f b c p x a
@@ -178,22 +179,22 @@ keeps-tags p = (refl, λ h. h)
 keeps-parts : (f : Participant → Participant) → ((p : Participant) → (f p).index ≡ p.index) → ((p : Participant) → ParticipantParts p → ParticipantParts (f p)) → Keeps f
 keeps-parts f i k p = (i p, λ h. participant-whole (f p) (k p (participant-parts p h)))
 
-keeps-candidate : (c : OptionalTag) → Proper c → Keeps (with_candidate c)
+keeps-candidate : (c : Option Tag) → Proper c → Keeps (with_candidate c)
 keeps-candidate c k =
     keeps-parts (with_candidate c) (λ p. refl)
     (λ p r. record { place = r.place; candidate = k; completed = r.completed; granted = r.granted; started = r.started })
 
-keeps-completed : (c : OptionalTag) → Proper c → Keeps (with_completed c)
+keeps-completed : (c : Option Tag) → Proper c → Keeps (with_completed c)
 keeps-completed c k =
     keeps-parts (with_completed c) (λ p. refl)
     (λ p r. record { place = r.place; candidate = r.candidate; completed = k; granted = r.granted; started = r.started })
 
-keeps-granted : (c : OptionalTag) → Proper c → Keeps (with_granted c)
+keeps-granted : (c : Option Tag) → Proper c → Keeps (with_granted c)
 keeps-granted c k =
     keeps-parts (with_granted c) (λ p. refl)
     (λ p r. record { place = r.place; candidate = r.candidate; completed = r.completed; granted = k; started = r.started })
 
-keeps-started : (c : OptionalTag) → Proper c → Keeps (with_started c)
+keeps-started : (c : Option Tag) → Proper c → Keeps (with_started c)
 keeps-started c k =
     keeps-parts (with_started c) (λ p. refl)
     (λ p r. record { place = r.place; candidate = r.candidate; completed = r.completed; granted = r.granted; started = k })
@@ -230,34 +231,34 @@ after-only e f k s h = after-every (at e f) (keeps-at e f k) s h
 one_of : (b : Bool) (x y : Tag) → T (is_proper x) → T (is_proper y) → T (is_proper (cond b x y))
 one_of b x y h k = if-true (λ (t : Tag). T (is_proper t)) b (λ u. h) (λ u. k)
 
-lesser-proper : (m n : OptionalTag) → Proper m → Proper n → Proper (lesser_present m n)
-lesser-proper NoTag n h k = k
-lesser-proper (At a) NoTag h k = h
-lesser-proper (At a) (At b) h k = one_of (a ≤ₜ b) a b h k
+lesser-proper : (m n : Option Tag) → Proper m → Proper n → Proper (lesser_present m n)
+lesser-proper None n h k = k
+lesser-proper (Some a) None h k = h
+lesser-proper (Some a) (Some b) h k = one_of (a ≤ₜ b) a b h k
 
-greater-proper : (m n : OptionalTag) → Proper m → Proper n → Proper (greater_present m n)
-greater-proper NoTag n h k = k
-greater-proper (At a) NoTag h k = h
-greater-proper (At a) (At b) h k = one_of (a ≤ₜ b) b a k h
+greater-proper : (m n : Option Tag) → Proper m → Proper n → Proper (greater_present m n)
+greater-proper None n h k = k
+greater-proper (Some a) None h k = h
+greater-proper (Some a) (Some b) h k = one_of (a ≤ₜ b) b a k h
 
-both-proper : (m n : OptionalTag) → Proper m → Proper n → Proper (lesser_of_both m n)
-both-proper NoTag n h k = tt
-both-proper (At a) NoTag h k = tt
-both-proper (At a) (At b) h k = one_of (a ≤ₜ b) a b h k
+both-proper : (m n : Option Tag) → Proper m → Proper n → Proper (lesser_of_both m n)
+both-proper None n h k = tt
+both-proper (Some a) None h k = tt
+both-proper (Some a) (Some b) h k = one_of (a ≤ₜ b) a b h k
 
-pub capped-proper : (m : OptionalTag) (t : Tag) → T (proper_if_present m) → T (is_proper t) → T (is_proper (capped_by m t))
-capped-proper NoTag t h k = k
-capped-proper (At c) t h k = one_of (t ≤ₜ c) t c k h
+pub capped-proper : (m : Option Tag) (t : Tag) → T (proper_if_present m) → T (is_proper t) → T (is_proper (capped_by m t))
+capped-proper None t h k = k
+capped-proper (Some c) t h k = one_of (t ≤ₜ c) t c k h
 
-raised-proper : (m : OptionalTag) (t : Tag) → Proper m → T (is_proper t) → T (is_proper (raised_horizon m t))
-raised-proper NoTag t h k = k
-raised-proper (At c) t h k = one_of (c ≤ₜ t) t c k h
+raised-proper : (m : Option Tag) (t : Tag) → Proper m → T (is_proper t) → T (is_proper (raised_horizon m t))
+raised-proper None t h k = k
+raised-proper (Some c) t h k = one_of (c ≤ₜ t) t c k h
 
-least-proper : (f : Participant → OptionalTag) (ps : List Participant) → Each (λ p. Proper (f p)) ps → Proper (least_of f ps)
+least-proper : (f : Participant → Option Tag) (ps : List Participant) → Each (λ p. Proper (f p)) ps → Proper (least_of f ps)
 least-proper f [] h = tt
 least-proper f (p ∷ ps) h = lesser-proper (f p) (least_of f ps) h.0 (least-proper f ps h.1)
 
-greatest-proper : (f : Participant → OptionalTag) (ps : List Participant) → Each (λ p. Proper (f p)) ps → Proper (greatest_of f ps)
+greatest-proper : (f : Participant → Option Tag) (ps : List Participant) → Each (λ p. Proper (f p)) ps → Proper (greatest_of f ps)
 greatest-proper f [] h = tt
 greatest-proper f (p ∷ ps) h = greater-proper (f p) (greatest_of f ps) h.0 (greatest-proper f ps h.1)
 
@@ -295,7 +296,7 @@ pub stop-keeps-sound : (s : State) → T (is_sound s) → T (is_sound (stop_of s
 unfolding stop_of
 stop-keeps-sound s h = if-true Leaves (is_stopped s) (λ u. h) (λ u. sound-whole _ (with-publication tt (sound-parts s h)))
 
-pub fail-keeps-sound : (e : OptionalEnclave) (s : State) → T (is_sound s) → T (is_sound (fail_of e s).state)
+pub fail-keeps-sound : (e : Option ℕ) (s : State) → T (is_sound s) → T (is_sound (fail_of e s).state)
 unfolding fail_of
 fail-keeps-sound e s h = if-true Leaves (is_stopped s) (λ u. h) (λ u. sound-whole _ (with-publication tt (sound-parts s h)))
 
@@ -305,25 +306,25 @@ pub announce-keeps-sound : (e : ℕ) (b : Bool) (s : State) → T (is_sound s) �
 unfolding announce
 announce-keeps-sound e b s h = sound-whole _ (with-acquisition tt (with-publication both (sound-parts s h)))
   where
-    both : T (proper_publication (Pending (publication_of s)))
+    both : T (proper_publication (Some (publication_of s)))
     both = and_intro (proper_if_present (least_candidate s)) (proper_if_present s.grant_horizon) (candidate-proper s h) (sound-proper-horizon s h)
 
-pub enlist-keeps-sound : (e : ℕ) (c : OptionalTag) (b : Bool) (s : State) → T (is_sound s) → T (proper_if_present c) → T (is_sound (enlist e c b s).state)
+pub enlist-keeps-sound : (e : ℕ) (c : Option Tag) (b : Bool) (s : State) → T (is_sound s) → T (proper_if_present c) → T (is_sound (enlist e c b s).state)
 unfolding enlist
 enlist-keeps-sound e c b s h k = if-true Leaves (all_published (only e (store c) s)) (λ u. announce-keeps-sound e b (only e (store c) s) kept) (λ u. kept)
   where
     kept : T (is_sound (only e (store c) s))
     kept = sound-whole _ (after-only e (store c) (keeps-candidate c k) s h)
 
-pub publish_by-keeps-sound : (e : ℕ) (c : OptionalTag) (s : State) → T (is_sound s) → T (proper_if_present c)
+pub publish_by-keeps-sound : (e : ℕ) (c : Option Tag) (s : State) → T (is_sound s) → T (proper_if_present c)
     → (o : Option Participant) → T (is_sound (publish_by e c s o).state)
 unfolding publish_by
-publish_by-keeps-sound e c s h k none = h
-publish_by-keeps-sound e c s h k (some p) =
+publish_by-keeps-sound e c s h k None = h
+publish_by-keeps-sound e c s h k (Some p) =
     if-true Leaves (same_optional p.candidate c) (λ u. if-true Leaves p.published (λ w. h) (λ w. enlist-keeps-sound e c false s h k))
     (λ u. enlist-keeps-sound e c (not (is Active s)) (revise_of s) (revise-keeps-sound s h) k)
 
-pub publish-keeps-sound : (e : ℕ) (c : OptionalTag) (s : State) → T (is_sound s) → T (proper_if_present c) → T (is_sound (publish_of e c s).state)
+pub publish-keeps-sound : (e : ℕ) (c : Option Tag) (s : State) → T (is_sound s) → T (proper_if_present c) → T (is_sound (publish_of e c s).state)
 unfolding publish_of
 publish-keeps-sound e c s h k = if-true Leaves (is_stopped s) (λ u. h) (λ u. publish_by-keeps-sound e c s h k (find e s.participants))
 
@@ -344,21 +345,21 @@ pub finish-keeps-sound : (f : Tag) (s : State) → T (is_sound s) → T (is_prop
 unfolding finish
 finish-keeps-sound f s h k = sound-whole _ (with-frontier k (with-inputs (left-proper s.pending_inputs f (sound-proper-inputs s h)) (sound-parts s h)))
 
-pub complete_all-keeps-sound : (m : OptionalTag) (s : State) → T (is_sound s) → T (proper_if_present m) → T (is_sound (complete_all m s).state)
+pub complete_all-keeps-sound : (m : Option Tag) (s : State) → T (is_sound s) → T (proper_if_present m) → T (is_sound (complete_all m s).state)
 unfolding complete_all
-complete_all-keeps-sound NoTag s h k = h
-complete_all-keeps-sound (At m) s h k = if-true Leaves (is_below s.completed_frontier m) (λ u. finish-keeps-sound m s h k) (λ u. h)
+complete_all-keeps-sound None s h k = h
+complete_all-keeps-sound (Some m) s h k = if-true Leaves (is_below s.completed_frontier m) (λ u. finish-keeps-sound m s h k) (λ u. h)
 
 pub noted-keeps-sound : (e : ℕ) (t : Tag) (n : Bool) (s : State) → T (is_sound s) → T (is_proper t) → T (is_sound (noted e t n s))
 noted-keeps-sound e t n s h k =
     sound-whole _ (with-inputs (widened-proper n t s.pending_inputs k (sound-proper-inputs s h))
-    (after-only e (with_completed (At t)) (keeps-completed (At t) k) s h))
+    (after-only e (with_completed (Some t)) (keeps-completed (Some t) k) s h))
 
 pub complete_by-keeps-sound : (e : ℕ) (t : Tag) (n : Bool) (s : State) → T (is_sound s) → T (is_proper t)
     → (o : Option Participant) → T (is_sound (complete_by e t n s o).state)
 unfolding complete_by
-complete_by-keeps-sound e t n s h k none = h
-complete_by-keeps-sound e t n s h k (some p) =
+complete_by-keeps-sound e t n s h k None = h
+complete_by-keeps-sound e t n s h k (Some p) =
     if-true Leaves (is_below p.completed t)
     (λ u. complete_all-keeps-sound (least_completed m.participants) m w (completed-proper m w)) (λ u. h)
   where
@@ -375,18 +376,18 @@ complete-keeps-sound e t n s h k = if-true Leaves (is_stopped s) (λ u. h) (λ u
 pub observed-keeps-sound : (e g : ℕ) (s : State) → T (is_sound s) → T (is_sound (observed_of e g s).state)
 unfolding observed_of
 observed-keeps-sound e g s h =
-    if-true Leaves (answers_probe g s) (λ u. sound-whole _ (after-only e (with_completion_observed (Number g)) keeps-tags s h)) (λ u. h)
+    if-true Leaves (answers_probe g s) (λ u. sound-whole _ (after-only e (with_completion_observed (Some g)) keeps-tags s h)) (λ u. h)
 
-pub advance_to-keeps-sound : (m : OptionalTag) (s : State) → T (is_sound s) → T (proper_if_present m) → T (is_sound (advance_to m s).state)
+pub advance_to-keeps-sound : (m : Option Tag) (s : State) → T (is_sound s) → T (proper_if_present m) → T (is_sound (advance_to m s).state)
 unfolding advance_to probe_for
-advance_to-keeps-sound NoTag s h k = h
-advance_to-keeps-sound (At f) s h k =
+advance_to-keeps-sound None s h k = h
+advance_to-keeps-sound (Some f) s h k =
     if-true Leaves (is_held f s) (λ u. cleared)
-    (λ u. if-true Leaves (same_optional s.completion_probe (At f))
-    (λ w. if-true Leaves (all_answered f s) (λ x. finish-keeps-sound f (with_completion_probe NoTag s) cleared k) (λ x. h))
+    (λ u. if-true Leaves (same_optional s.completion_probe (Some f))
+    (λ w. if-true Leaves (all_answered f s) (λ x. finish-keeps-sound f (with_completion_probe None s) cleared k) (λ x. h))
     (λ w. sound-whole _ (with-probe k (sound-parts s h))))
   where
-    cleared : T (is_sound (with_completion_probe NoTag s))
+    cleared : T (is_sound (with_completion_probe None s))
     cleared = sound-whole _ (with-probe tt (sound-parts s h))
 
 pub advance-keeps-sound : (s : State) → T (is_sound s) → T (is_sound (advance_of s).state)
@@ -403,7 +404,7 @@ pub grant-keeps-sound : (t : Tag) (s : State) → T (is_sound s) → T (is_prope
 unfolding grant_of
 grant-keeps-sound t s h k =
     sound-whole _ (with-horizon (raised-proper s.grant_horizon t (sound-proper-horizon s h) k)
-    (with-publication tt (after-every (granted_up_to t) (keeps-granted (At t) k) s h)))
+    (with-publication tt (after-every (granted_up_to t) (keeps-granted (Some t) k) s h)))
 
 pub acquire_capped-keeps-sound : (t : Tag) (s : State) → T (is_sound s) → T (is_proper t) → T (is_sound (acquire_capped t s).state)
 unfolding acquire_capped
@@ -416,13 +417,13 @@ acquire-keeps-sound r t s h k =
     (λ u. acquire_capped-keeps-sound (capped_by s.input_horizon t) (stored r t s) (stored-keeps-sound r t s h k)
     (capped-proper s.input_horizon t (sound-proper-input-horizon s h) k))
 
-pub sent_under-keeps-sound : (m : OptionalTag) (r : ℕ) (n : OptionalTag) (s : State) → T (is_sound s) → T (proper_if_present m)
+pub sent_under-keeps-sound : (m : Option Tag) (r : ℕ) (n : Option Tag) (s : State) → T (is_sound s) → T (proper_if_present m)
     → T (is_sound (sent_under m r n s).state)
 unfolding sent_under
-sent_under-keeps-sound NoTag r n s h k = h
-sent_under-keeps-sound (At t) r n s h k = if-true Leaves (is_at_or_below n t) (λ u. acquire-keeps-sound r t s h k) (λ u. h)
+sent_under-keeps-sound None r n s h k = h
+sent_under-keeps-sound (Some t) r n s h k = if-true Leaves (is_at_or_below n t) (λ u. acquire-keeps-sound r t s h k) (λ u. h)
 
-pub sent-keeps-sound : (r : ℕ) (n m : OptionalTag) (s : State) → T (is_sound s) → T (is_sound (publication_sent_of r n m s).state)
+pub sent-keeps-sound : (r : ℕ) (n m : Option Tag) (s : State) → T (is_sound s) → T (is_sound (publication_sent_of r n m s).state)
 unfolding publication_sent_of
 sent-keeps-sound r n m s h =
     if-true Leaves (same_publication s.pending_publication r n m) (λ u. sent_under-keeps-sound s.grant_horizon r n s h (sound-proper-horizon s h)) (λ u. h)
@@ -463,12 +464,12 @@ idle-keeps-sound r s h = if-true Leaves (awaits r s) (λ u. sound-whole _ (with-
 
 -- ---- the gate
 
-pub horizon-keeps-sound : (t : OptionalTag) (s : State) → T (is_sound s) → T (proper_if_present t) → T (is_sound (with_input_horizon t s))
+pub horizon-keeps-sound : (t : Option Tag) (s : State) → T (is_sound s) → T (proper_if_present t) → T (is_sound (with_input_horizon t s))
 horizon-keeps-sound t s h k = sound-whole _ (with-input-horizon k (sound-parts s h))
 
-pub begun-keeps-sound : (m : OptionalTag) (e : ℕ) (t : Tag) (s : State) → T (is_sound s) → T (is_proper t) → T (is_sound (begun m e t s))
-begun-keeps-sound NoTag e t s h k = h
-begun-keeps-sound (At c) e t s h k = sound-whole _ (after-only e (with_started (At t)) (keeps-started (At t) k) s h)
+pub begun-keeps-sound : (m : Option Tag) (e : ℕ) (t : Tag) (s : State) → T (is_sound s) → T (is_proper t) → T (is_sound (begun m e t s))
+begun-keeps-sound None e t s h k = h
+begun-keeps-sound (Some c) e t s h k = sound-whole _ (after-only e (with_started (Some t)) (keeps-started (Some t) k) s h)
 
 pub begin-keeps-sound : (e : ℕ) (t : Tag) (s : State) → T (is_sound s) → T (is_proper t) → T (is_sound (begin_tag_of e t s).state)
 unfolding begin_tag_of
@@ -476,7 +477,7 @@ begin-keeps-sound e t s h k = if-true Leaves (may_begin s.input_horizon e t s) (
 
 pub input-keeps-sound : (es : List ℕ) (s : State) → T (is_sound s) → T (is_sound (input_publishing_of es s).state)
 unfolding input_publishing_of
-input-keeps-sound es s h = sound-whole _ (with-acquisition tt (after-every (noticed es) (keeps-granted NoTag tt) (revise_of s) (revise-keeps-sound s h)))
+input-keeps-sound es s h = sound-whole _ (with-acquisition tt (after-every (noticed es) (keeps-granted None tt) (revise_of s) (revise-keeps-sound s h)))
 
 -- ---- any call
 

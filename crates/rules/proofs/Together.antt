@@ -1,9 +1,9 @@
 -- `CallKeepsTogether`, `OpeningIsTogether` and `CallKeepsEnclaves`: every rule changes the participants by maps that keep each index and either keep
 -- each granted tag or grant one tag to all; so what such maps keep of a list of participants, every call keeps. Assumes nothing.
+use Rattle.std.specs.Prelude.{None, Some, Option}
 use mathlib.Core.Path.{◌≡◌, refl, ap₂, ◌∙◌}
 use mathlib.Core.Bool.{Bool, false, not}
 use mathlib.Core.List.{List, [], ◌∷◌, map}
-use mathlib.Core.Option.{Option, none, some}
 use Prim.Native.Nat.{ℕ}
 use lib.Dec.{eqb}
 use Rattle.tags.specs.Tags.{is_at_or_below, capped_by, is_below, same_optional}
@@ -12,7 +12,7 @@ use Rattle.rules.specs.Calls.{call, facts, is_taken, own_step, take_step}
 use Rattle.rules.specs.Completion.{advance_of, advance_to, all_answered, answers_probe, complete_all, complete_by, complete_tag_of, finish, front_of, is_held, least_completed, noted, observed_of, probe_for}
 use Rattle.rules.specs.Demands.{CallKeepsEnclaves, CallKeepsTogether, OpeningIsTogether, Together, enclaves_of}
 use Rattle.rules.specs.Gate.{begin_tag_of, begun, input_publishing_of, may_begin, noticed}
-use Rattle.rules.specs.Model.{Active, At, Call, Counts, Given, HasParked, Ignored, NoTag, NoneStored, Number, Observation, OptionalAcquisition, OptionalEnclave, OptionalTag, Participant, Probed, Rechecked, Refused, State, Step, Stored, Tag, Verdict, acquire, active, begin, complete, done, failed, horizon, idle, input, late, observe, observed, progress, publish, sent, stop, stopped}
+use Rattle.rules.specs.Model.{Active, Call, Counts, Given, HasParked, Ignored, NoneStored, Observation, OptionalAcquisition, Participant, Probed, Rechecked, Refused, State, Step, Stored, Tag, Verdict, acquire, active, begin, complete, done, failed, horizon, idle, input, late, observe, observed, progress, publish, sent, stop, stopped}
 use Rattle.rules.specs.Observation.{agreed, all_observed, awaits, idle_confirmation_of, lacks_authorization, observation_of, observe_by, observed_already, observes, tally, unheard, verdict_of}
 use Rattle.rules.specs.Opening.{opened}
 use Rattle.rules.specs.Publication.{activate_of, all_published, announce, deactivated, enlist, forget, publish_by, publish_of, revise_of, store, unpublish}
@@ -27,7 +27,7 @@ abbrev Keeps : (Participant → Participant) → Type 0
 Keeps f = (p : Participant) → ((f p).index ≡ p.index) × ((f p).granted ≡ p.granted)
 
 -- one that keeps each index and grants t to all
-abbrev Grants : OptionalTag → (Participant → Participant) → Type 0
+abbrev Grants : Option Tag → (Participant → Participant) → Type 0
 Grants t f = (p : Participant) → ((f p).index ≡ p.index) × ((f p).granted ≡ t)
 
 keeps-at : (e : ℕ) (f : Participant → Participant) → Keeps f → Keeps (at e f)
@@ -37,7 +37,7 @@ keeps-at e f k p = if-true (λ (q : Participant). (q.index ≡ p.index) × (q.gr
 
 module _ (P : List Participant → Type 0)
     (same : (f : Participant → Participant) → Keeps f → (ps : List Participant) → P ps → P (map f ps))
-    (grant : (t : OptionalTag) (f : Participant → Participant) → Grants t f → (ps : List Participant) → P ps → P (map f ps)) where
+    (grant : (t : Option Tag) (f : Participant → Participant) → Grants t f → (ps : List Participant) → P ps → P (map f ps)) where
   abbrev Left : Step → Type 0
   Left o = P o.state.participants
 
@@ -59,24 +59,24 @@ module _ (P : List Participant → Type 0)
   unfolding stop_of
   after_stop s h = if-true Left (is_stopped s) (λ u. h) (λ u. h)
 
-  after-failed : (e : OptionalEnclave) (s : State) → P s.participants → Left (fail_of e s)
+  after-failed : (e : Option ℕ) (s : State) → P s.participants → Left (fail_of e s)
   unfolding fail_of
   after-failed e s h = if-true Left (is_stopped s) (λ u. h) (λ u. h)
 
-  after-enlist : (e : ℕ) (c : OptionalTag) (b : Bool) (s : State) → P s.participants → Left (enlist e c b s)
+  after-enlist : (e : ℕ) (c : Option Tag) (b : Bool) (s : State) → P s.participants → Left (enlist e c b s)
   unfolding enlist announce
   after-enlist e c b s h = if-true Left (all_published (only e (store c) s)) (λ u. w) (λ u. w)
     where
       w : P (only e (store c) s).participants
       w = one e (store c) (λ p. (refl, refl)) s.participants h
 
-  after-publish : (e : ℕ) (c : OptionalTag) (s : State) → P s.participants → Left (publish_of e c s)
+  after-publish : (e : ℕ) (c : Option Tag) (s : State) → P s.participants → Left (publish_of e c s)
   unfolding publish_of publish_by
   after-publish e c s h = if-true Left (is_stopped s) (λ u. h) (λ u. go (find e s.participants))
     where
       go : (o : Option Participant) → Left (publish_by e c s o)
-      go none = h
-      go (some p) =
+      go None = h
+      go (Some p) =
           if-true Left (same_optional p.candidate c) (λ u. if-true Left p.published (λ w. h) (λ w. after-enlist e c false s h))
           (λ u. after-enlist e c (not (is Active s)) (revise_of s) (after-revise s h))
 
@@ -85,29 +85,29 @@ module _ (P : List Participant → Type 0)
   after-complete e t n s h = if-true Left (is_stopped s) (λ u. h) (λ u. go (find e s.participants))
     where
       w : P (noted e t n s).participants
-      w = one e (with_completed (At t)) (λ p. (refl, refl)) s.participants h
+      w = one e (with_completed (Some t)) (λ p. (refl, refl)) s.participants h
 
-      all_have : (m : OptionalTag) → Left (complete_all m (noted e t n s))
-      all_have NoTag = w
-      all_have (At m) = if-true Left (is_below s.completed_frontier m) (λ u. w) (λ u. w)
+      all_have : (m : Option Tag) → Left (complete_all m (noted e t n s))
+      all_have None = w
+      all_have (Some m) = if-true Left (is_below s.completed_frontier m) (λ u. w) (λ u. w)
 
       go : (o : Option Participant) → Left (complete_by e t n s o)
-      go none = h
-      go (some p) = if-true Left (is_below p.completed t) (λ u. all_have (least_completed (noted e t n s).participants)) (λ u. h)
+      go None = h
+      go (Some p) = if-true Left (is_below p.completed t) (λ u. all_have (least_completed (noted e t n s).participants)) (λ u. h)
 
   after-observed : (e g : ℕ) (s : State) → P s.participants → Left (observed_of e g s)
   unfolding observed_of
-  after-observed e g s h = if-true Left (answers_probe g s) (λ u. one e (with_completion_observed (Number g)) (λ p. (refl, refl)) s.participants h) (λ u. h)
+  after-observed e g s h = if-true Left (answers_probe g s) (λ u. one e (with_completion_observed (Some g)) (λ p. (refl, refl)) s.participants h) (λ u. h)
 
   after-advance : (s : State) → P s.participants → Left (advance_of s)
   unfolding advance_of advance_to finish probe_for
   after-advance s h = if-true Left (is_stopped s) (λ u. h) (λ u. go (front_of s))
     where
-      go : (m : OptionalTag) → Left (advance_to m s)
-      go NoTag = h
-      go (At f) =
+      go : (m : Option Tag) → Left (advance_to m s)
+      go None = h
+      go (Some f) =
           if-true Left (is_held f s) (λ u. h)
-          (λ u. if-true Left (same_optional s.completion_probe (At f)) (λ w. if-true Left (all_answered f s) (λ x. h) (λ x. h)) (λ w. h))
+          (λ u. if-true Left (same_optional s.completion_probe (Some f)) (λ w. if-true Left (all_answered f s) (λ x. h) (λ x. h)) (λ w. h))
 
   after-acquire : (r : ℕ) (t : Tag) (s : State) → P s.participants → Left (acquisition_of r t s)
   unfolding acquisition_of acquire_capped grant_of
@@ -117,15 +117,15 @@ module _ (P : List Participant → Type 0)
       k = capped_by s.input_horizon t
 
       go : (m : State) → P m.participants → Left (acquire_capped k m)
-      go m w = if-true Left (nothing_new k m) (λ u. w) (λ u. grant (At k) (granted_up_to k) (λ p. (refl, refl)) m.participants w)
+      go m w = if-true Left (nothing_new k m) (λ u. w) (λ u. grant (Some k) (granted_up_to k) (λ p. (refl, refl)) m.participants w)
 
-  after-sent : (r : ℕ) (n m : OptionalTag) (s : State) → P s.participants → Left (publication_sent_of r n m s)
+  after-sent : (r : ℕ) (n m : Option Tag) (s : State) → P s.participants → Left (publication_sent_of r n m s)
   unfolding publication_sent_of sent_under
   after-sent r n m s h = if-true Left (same_publication s.pending_publication r n m) (λ u. go s.grant_horizon) (λ u. h)
     where
-      go : (k : OptionalTag) → Left (sent_under k r n s)
-      go NoTag = h
-      go (At t) = if-true Left (is_at_or_below n t) (λ u. after-acquire r t s h) (λ u. h)
+      go : (k : Option Tag) → Left (sent_under k r n s)
+      go None = h
+      go (Some t) = if-true Left (is_at_or_below n t) (λ u. after-acquire r t s h) (λ u. h)
 
   after-progress : (a : OptionalAcquisition) (s : State) → P s.participants → Left (progress_by a s)
   unfolding progress_by
@@ -163,13 +163,13 @@ module _ (P : List Participant → Type 0)
   unfolding begin_tag_of
   after-begin e t s h = if-true Left (may_begin s.input_horizon e t s) (λ u. go s.input_horizon) (λ u. h)
     where
-      go : (m : OptionalTag) → P (begun m e t s).participants
-      go NoTag = h
-      go (At c) = one e (with_started (At t)) (λ p. (refl, refl)) s.participants h
+      go : (m : Option Tag) → P (begun m e t s).participants
+      go None = h
+      go (Some c) = one e (with_started (Some t)) (λ p. (refl, refl)) s.participants h
 
   after-input : (es : List ℕ) (s : State) → P s.participants → Left (input_publishing_of es s)
   unfolding input_publishing_of
-  after-input es s h = grant NoTag (noticed es) (λ p. (refl, refl)) (revise_of s).participants (after-revise s h)
+  after-input es s h = grant None (noticed es) (λ p. (refl, refl)) (revise_of s).participants (after-revise s h)
 
   after-own : (c : Call) (s : State) → P s.participants → Left (own_step c s)
   unfolding own_step
@@ -205,7 +205,7 @@ module _ (P : List Participant → Type 0)
 same-together : (f : Participant → Participant) → Keeps f → (ps : List Participant) → Together ps → Together (map f ps)
 same-together f k ps h = record { tag = h.tag; all = each-onto (λ p. p.granted ≡ h.tag) (λ p. p.granted ≡ h.tag) f (λ p e. (k p).1 ∙ e) ps h.all }
 
-grant-together : (t : OptionalTag) (f : Participant → Participant) → Grants t f → (ps : List Participant) → Together ps → Together (map f ps)
+grant-together : (t : Option Tag) (f : Participant → Participant) → Grants t f → (ps : List Participant) → Together ps → Together (map f ps)
 grant-together t f k ps h = record { tag = t; all = each-onto (λ p. p.granted ≡ h.tag) (λ p. p.granted ≡ t) f (λ p e. (k p).1) ps h.all }
 
 pub call-keeps-together : CallKeepsTogether
@@ -213,7 +213,7 @@ call-keeps-together g s h = after_call Together same-together grant-together g s
 
 pub opening-is-together : OpeningIsTogether
 unfolding opened
-opening-is-together o = record { tag = NoTag; all = seated-each (λ p. p.granted ≡ NoTag) o.enclaves (each_of (λ e. refl) o.enclaves) }
+opening-is-together o = record { tag = None; all = seated-each (λ p. p.granted ≡ None) o.enclaves (each_of (λ e. refl) o.enclaves) }
 
 -- ---- no call changes who takes part
 

@@ -1,8 +1,8 @@
 -- What the actions of a call carry. The rules make no tag and no enclave, they choose among those of the state and of the call; so a call's actions
 -- can be written where its state and its arguments can (document 01, "Action record"). Only statements stand here; proofs/Actions.antt proves them.
 -- Assumes nothing.
-use Rattle.std.specs.Prelude.{ℕ, ◌<◌, ◌^◌, List, [], ◌∷◌}
-use Rattle.rules.specs.Model.{Tag, OptionalTag, NoTag, At, OptionalAcquisition, NoneStored, Stored, Participant, CoordinationAction, Publish, AdvanceHorizon, Grant, Complete, CompletionProbe, Probe, Park, Recheck, Resume, Stop, Abort, State, Step, Given}
+use Rattle.std.specs.Prelude.{ℕ, ◌<◌, ◌^◌, List, [], ◌∷◌, None, Option, Some}
+use Rattle.rules.specs.Model.{Tag, OptionalAcquisition, NoneStored, Stored, Participant, CoordinationAction, Publish, AdvanceHorizon, Grant, Complete, CompletionProbe, Probe, Park, Recheck, Resume, Stop, Abort, State, Step, Given}
 use Rattle.rules.specs.Calls.{facts, call}
 use Rattle.rules.specs.Demands.{Each}
 
@@ -10,18 +10,18 @@ use Rattle.rules.specs.Demands.{Each}
 
 -- the tags, the enclaves and the revisions or generations in an action
 pub record Contents : Type 0 where
-  pub tags : List OptionalTag
+  pub tags : List (Option Tag)
   pub enclaves : List ℕ
   pub numbers : List ℕ
 
-abbrev pub contents : List OptionalTag → List ℕ → List ℕ → Contents
+abbrev pub contents : List (Option Tag) → List ℕ → List ℕ → Contents
 contents ts es ns = record { tags = ts; enclaves = es; numbers = ns }
 
 abbrev pub contents_of : CoordinationAction → Contents
 contents_of (Publish p) = contents (p.next_event ∷ p.grant_horizon ∷ []) [] (p.revision ∷ [])
-contents_of (AdvanceHorizon t) = contents (At t ∷ []) [] []
-contents_of (Grant e t) = contents (At t ∷ []) (e ∷ []) []
-contents_of (Complete c) = contents (At c.completed ∷ []) [] []
+contents_of (AdvanceHorizon t) = contents (Some t ∷ []) [] []
+contents_of (Grant e t) = contents (Some t ∷ []) (e ∷ []) []
+contents_of (Complete c) = contents (Some c.completed ∷ []) [] []
 contents_of (CompletionProbe e g) = contents [] (e ∷ []) (g ∷ [])
 contents_of (Probe r) = contents [] [] (r ∷ [])
 contents_of (Park r) = contents [] [] (r ∷ [])
@@ -31,9 +31,9 @@ contents_of Stop = contents [] [] []
 contents_of Abort = contents [] [] []
 
 -- P of the tag, where there is one
-abbrev pub IfAt : (Tag → Type 0) → OptionalTag → Type 0
-IfAt P NoTag = Unit {0}
-IfAt P (At t) = P t
+abbrev pub IfAt : (Tag → Type 0) → Option Tag → Type 0
+IfAt P None = Unit {0}
+IfAt P (Some t) = P t
 
 abbrev pub IfStored : (Tag → Type 0) → OptionalAcquisition → Type 0
 IfStored P NoneStored = Unit {0}

@@ -1,7 +1,8 @@
 -- What each call is, its refusals in document 01's order ("Ceilings and refusals"), and a run of calls. Assumes nothing.
-use Rattle.std.specs.Prelude.{ℕ, ◌+◌, ◌*◌, ◌^◌, Bool, true, false, not, cond, ◌&&◌, List, [], ◌∷◌, ◌++◌, leb, ltb, eqb, length}
+use Rattle.records.specs.declared.FederatePublication.{FederatePublication}
+use Rattle.std.specs.Prelude.{ℕ, ◌+◌, ◌*◌, ◌^◌, Bool, true, false, not, cond, ◌&&◌, List, [], ◌∷◌, ◌++◌, leb, ltb, eqb, length, None, Option, Some}
 use Rattle.tags.specs.Tags.{is_proper, proper_if_present}
-use Rattle.rules.specs.Model.{Tag, OptionalTag, At, OptionalEnclave, NoEnclave, Enclave, OptionalPublication, NonePending, Pending, OptionalAcquisition, NoneStored, Stored, OptionalInputs, NoInputs, Inputs, Observation, Participant, State, Step, Call, active, stopped, publish, complete, observed, failed, acquire, sent, observe, idle, stop, progress, horizon, begin, late, done, input, Answer, Silent, No, Yes, Result, Given}
+use Rattle.rules.specs.Model.{Tag, OptionalAcquisition, NoneStored, Stored, OptionalInputs, NoInputs, Inputs, Observation, Participant, State, Step, Call, active, stopped, publish, complete, observed, failed, acquire, sent, observe, idle, stop, progress, horizon, begin, late, done, input, Result, Given}
 use Rattle.rules.specs.Set.{with_input_horizon}
 use Rattle.rules.specs.Walk.{all, knows, quiet}
 use Rattle.rules.specs.Publication.{activate_of, publish_of}
@@ -17,21 +18,21 @@ use Rattle.rules.specs.Gate.{input_publishing_of, may_begin, begin_tag_of, is_la
 pub record Facts : Type 0 where
   pub message : Bool
   pub takes_room : Bool
-  pub tags : List OptionalTag
+  pub tags : List (Option Tag)
   pub names : List ℕ
   pub wrong_in : State → Bool
-  pub answer : State → Answer
+  pub answer : State → Option Bool
 
-abbrev pub plain : Bool → Bool → List OptionalTag → List ℕ → Facts
-plain m r ts es = record { message = m; takes_room = r; tags = ts; names = es; wrong_in = λ s. false; answer = λ s. Silent }
+abbrev pub plain : Bool → Bool → List (Option Tag) → List ℕ → Facts
+plain m r ts es = record { message = m; takes_room = r; tags = ts; names = es; wrong_in = λ s. false; answer = λ s. None }
 
-abbrev pub says : Bool → Answer
-says true = Yes
-says false = No
+abbrev pub says : Bool → Option Bool
+says true = (Some true)
+says false = (Some false)
 
 -- begin, late and done: no message, no room, one tag, never 3
 abbrev pub question : Tag → (State → Bool) → Facts
-question t q = record { message = false; takes_room = false; tags = At t ∷ []; names = []; wrong_in = λ s. false; answer = λ s. says (q s) }
+question t q = record { message = false; takes_room = false; tags = Some t ∷ []; names = []; wrong_in = λ s. false; answer = λ s. says (q s) }
 
 abbrev pub observing : ℕ → ℕ → Observation → Facts
 observing e r o = record {
@@ -40,22 +41,22 @@ observing e r o = record {
   tags = [];
   names = e ∷ [];
   wrong_in = λ s. not (unheard r s) && is_refused (verdict_of s.phase o);
-  answer = λ s. Silent;
+  answer = λ s. None;
 }
 
-abbrev pub someone : OptionalEnclave → List ℕ
-someone NoEnclave = []
-someone (Enclave e) = e ∷ []
+abbrev pub someone : Option ℕ → List ℕ
+someone None = []
+someone (Some e) = e ∷ []
 
 --                              message room
 abbrev pub facts : Call → Facts
 facts (active e) = plain true true [] (e ∷ [])
 facts (publish e c) = plain true true (c ∷ []) (e ∷ [])
-facts (complete e t n) = plain true true (At t ∷ []) (e ∷ [])
+facts (complete e t n) = plain true true (Some t ∷ []) (e ∷ [])
 facts (observed e g) = plain true true [] (e ∷ [])
 facts (stopped e) = plain true true [] (e ∷ [])
 facts (failed e) = plain true true [] (someone e)
-facts (acquire r t) = plain false true (At t ∷ []) []
+facts (acquire r t) = plain false true (Some t ∷ []) []
 facts (sent r n h) = plain false true (n ∷ h ∷ []) []
 facts (observe e r o) = observing e r o
 facts (idle r) = plain false true [] []
@@ -109,9 +110,9 @@ abbrev pub proper_participant : Participant → Bool
 proper_participant p =
     leb p.index 4095 && proper_if_present p.candidate && proper_if_present p.completed && proper_if_present p.granted && proper_if_present p.started
 
-abbrev pub proper_publication : OptionalPublication → Bool
-proper_publication NonePending = true
-proper_publication (Pending p) = proper_if_present p.next_event && proper_if_present p.grant_horizon
+abbrev pub proper_publication : Option FederatePublication → Bool
+proper_publication None = true
+proper_publication (Some p) = proper_if_present p.next_event && proper_if_present p.grant_horizon
 
 abbrev pub proper_inputs : OptionalInputs → Bool
 proper_inputs NoInputs = true
@@ -134,7 +135,7 @@ is_sound s =
 abbrev pub room_for : State → ℕ
 room_for s = 56 * (length s.participants + 2)
 
-abbrev pub all_proper : List OptionalTag → Bool
+abbrev pub all_proper : List (Option Tag) → Bool
 all_proper [] = true
 all_proper (t ∷ ts) = proper_if_present t && all_proper ts
 
@@ -162,10 +163,10 @@ abbrev pub is_taken : Given → State → Bool
 is_taken g s = eqb (refusal g s) 0
 
 -- a refusal answers no where the call answers
-abbrev pub refused_answer : Answer → Answer
-refused_answer Silent = Silent
-refused_answer No = No
-refused_answer Yes = No
+abbrev pub refused_answer : Option Bool → Option Bool
+refused_answer None = None
+refused_answer (Some false) = (Some false)
+refused_answer (Some true) = (Some false)
 
 -- "A refusal returns the entry state, zero actions, the answer no"
 unfoldable pub call : Given → State → Result

@@ -1,8 +1,8 @@
 -- What is promised of any run of calls: the user's demand 3, and what the room demanded by refusal 8 rests on. A run starts at an opening and
 -- takes any list of calls with any room, refused ones among them. Only statements stand here; proofs/ has a proof of each, named at its end.
-use Rattle.std.specs.Prelude.{◌≡◌, ◌⊎◌, Bool, not, cond, ◌&&◌, List, [], ◌∷◌, ◌++◌, map, ℕ, ◌*◌, ◌≤◌, T, eqb, length}
+use Rattle.std.specs.Prelude.{◌≡◌, ◌⊎◌, Bool, not, cond, ◌&&◌, List, [], ◌∷◌, ◌++◌, map, ℕ, ◌*◌, ◌≤◌, T, eqb, length, None, Option, Some}
 use Rattle.tags.specs.Tags.{is_below, has_reached, is_at_or_below}
-use Rattle.rules.specs.Model.{Tag, OptionalTag, NoTag, At, OptionalNumber, NoNumber, Number, LifecyclePolicy, Observation, Participant, CoordinationAction, Publish, AdvanceHorizon, Grant, Complete, CompletionProbe, Probe, Park, Recheck, Resume, Stop, Abort, State, Step, Call, Given, observed, acquire, observe}
+use Rattle.rules.specs.Model.{Tag, LifecyclePolicy, Observation, Participant, CoordinationAction, Publish, AdvanceHorizon, Grant, Complete, CompletionProbe, Probe, Park, Recheck, Resume, Stop, Abort, State, Step, Call, Given, observed, acquire, observe}
 use Rattle.rules.specs.Walk.{quiet}
 use Rattle.rules.specs.Opening.{opening_refusal, opened}
 use Rattle.rules.specs.Completion.{complete_of}
@@ -49,12 +49,12 @@ completes [] = []
 completes (a ∷ acts) = complete_tag a ++ completes acts
 
 -- each is above the tag before it, the first above m
-abbrev pub Increasing : OptionalTag → List Tag → Type 0
+abbrev pub Increasing : Option Tag → List Tag → Type 0
 Increasing m [] = Unit {0}
-Increasing m (t ∷ ts) = T (is_below m t) × Increasing (At t) ts
+Increasing m (t ∷ ts) = T (is_below m t) × Increasing (Some t) ts
 
 abbrev pub CompletesIncrease : Type 0
-CompletesIncrease = (o : Opening) (gs : List Given) → Increasing NoTag (completes (run_calls gs (start o)).actions)
+CompletesIncrease = (o : Opening) (gs : List Given) → Increasing None (completes (run_calls gs (start o)).actions)
 
 -- the same from any state, with its frontier as the tag to exceed
 abbrev pub CompletesExceedFrontier : Type 0
@@ -65,15 +65,15 @@ CompletesExceedFrontier = (gs : List Given) (s : State) → Increasing s.complet
 
 -- at entry, in s, the probe for f was out; the enclave stands published, with no candidate at or below f, and has acknowledged that probe
 pub record Stands (s : State) (f : Tag) (p : Participant) : Type 0 where
-  pub probed : s.completion_probe ≡ At f
+  pub probed : s.completion_probe ≡ Some f
   pub published : T p.published
   pub beyond : T (not (is_at_or_below p.candidate f))
-  pub acknowledged : p.completion_observed ≡ Number s.completion_generation
+  pub acknowledged : p.completion_observed ≡ Some s.completion_generation
 
 -- the call c, in s, is enclave e's acknowledgement of generation n, while the probe for f is out
 pub record Acknowledges (f : Tag) (c : Call) (s : State) (e n : ℕ) : Type 0 where
   pub says : c ≡ observed e n
-  pub out : s.completion_probe ≡ At f
+  pub out : s.completion_probe ≡ Some f
   pub current : n ≡ s.completion_generation
 
 -- some call of the run from s was taken and was that
@@ -169,7 +169,7 @@ Course f ms (x ∷ xs) s =
 -- a step with completion probes: they are for one tag f, name someone, and are answered as said, those named missing at first
 pub record Answered (step : Step) : Type 0 where
   pub for : Tag
-  pub probe : step.state.completion_probe ≡ At for
+  pub probe : step.state.completion_probe ≡ Some for
   pub names : NonEmpty (named step.actions)
   pub course : (xs : List LateGiven) → Each (λ x. Stale step.state.revision x.late) xs → Course for (named step.actions) xs step.state
 
@@ -196,9 +196,9 @@ CallFitsRoom = (g : Given) (s : State) → 56 * length (call g s).step.actions �
 abbrev pub FrontierCovers : State → Type 0
 FrontierCovers s = (f : Tag) → Each (λ p. T (has_reached p.completed f)) s.participants → T (has_reached s.completed_frontier f)
 
-abbrev pub UpTo : OptionalNumber → ℕ → Type 0
-UpTo NoNumber g = Unit {0}
-UpTo (Number n) g = n ≤ g
+abbrev pub UpTo : Option ℕ → ℕ → Type 0
+UpTo None g = Unit {0}
+UpTo (Some n) g = n ≤ g
 
 -- no acknowledgement is above the generation
 abbrev pub NoneAhead : State → Type 0
@@ -229,7 +229,7 @@ enclaves_of s = map (λ p. p.index) s.participants
 
 -- with the participants as its argument it is the same type at two states that differ in other fields alone
 pub record Together (ps : List Participant) : Type 0 where
-  pub tag : OptionalTag
+  pub tag : Option Tag
   pub all : Each (λ p. p.granted ≡ tag) ps
 
 abbrev pub OpeningIsTogether : Type 0

@@ -1,16 +1,8 @@
 -- The state that document 01's rules speak of, the calls by their words in a script, and what a call gives. Assumes nothing.
-use Rattle.std.specs.Prelude.{ℕ, Bool, List}
+use Rattle.std.specs.Prelude.{ℕ, Bool, List, Option}
 -- the declared types, passed on: every other file takes them from here
 pub use Rattle.tags.specs.declared.Tag.{Tag}
-pub use Rattle.tags.specs.declared.OptionalTag.{OptionalTag}
-pub use Rattle.tags.specs.declared.OptionalTag.TheVariants.{NoTag, At}
-pub use Rattle.records.specs.declared.OptionalNumber.{OptionalNumber}
-pub use Rattle.records.specs.declared.OptionalNumber.TheVariants.{NoNumber, Number}
-pub use Rattle.records.specs.declared.OptionalEnclave.{OptionalEnclave}
-pub use Rattle.records.specs.declared.OptionalEnclave.TheVariants.{NoEnclave, Enclave}
 pub use Rattle.records.specs.declared.FederatePublication.{FederatePublication}
-pub use Rattle.records.specs.declared.OptionalPublication.{OptionalPublication}
-pub use Rattle.records.specs.declared.OptionalPublication.TheVariants.{NonePending, Pending}
 pub use Rattle.records.specs.declared.LifecyclePolicy.{LifecyclePolicy}
 pub use Rattle.records.specs.declared.LifecyclePolicy.TheVariants.{KeepAlive, TerminateWhenIdle, CoordinatedTermination}
 pub use Rattle.records.specs.declared.CoordinationPhase.{CoordinationPhase}
@@ -22,8 +14,6 @@ pub use Rattle.records.specs.declared.Verdict.{Verdict}
 pub use Rattle.records.specs.declared.Verdict.TheVariants.{Counts, Ignored, Refused}
 pub use Rattle.records.specs.declared.CoordinationAction.{CoordinationAction}
 pub use Rattle.records.specs.declared.CoordinationAction.TheVariants.{Publish, AdvanceHorizon, Grant, Complete, CompletionProbe, Probe, Park, Recheck, Resume, Stop, Abort}
-pub use Rattle.records.specs.declared.Answer.{Answer}
-pub use Rattle.records.specs.declared.Answer.TheVariants.{Silent, No, Yes}
 
 -- a phase acknowledgement, where one is kept
 pub data OptionalObservation : Type 0 where
@@ -43,13 +33,13 @@ pub data OptionalInputs : Type 0 where
 -- ParticipantState, with its index
 pub record Participant : Type 0 where
   pub index : ℕ
-  pub candidate : OptionalTag
-  pub completed : OptionalTag
+  pub candidate : Option Tag
+  pub completed : Option Tag
   pub published : Bool
-  pub completion_observed : OptionalNumber
+  pub completion_observed : Option ℕ
   pub observation : OptionalObservation
-  pub granted : OptionalTag
-  pub started : OptionalTag
+  pub granted : Option Tag
+  pub started : Option Tag
 
 -- FederateCoordinationState; the participants by ascending index
 pub record State : Type 0 where
@@ -57,15 +47,15 @@ pub record State : Type 0 where
   pub lifecycle : LifecyclePolicy
   pub phase : CoordinationPhase
   pub revision : ℕ
-  pub idle_authorization : OptionalNumber
-  pub pending_publication : OptionalPublication
-  pub grant_horizon : OptionalTag
-  pub completed_frontier : OptionalTag
+  pub idle_authorization : Option ℕ
+  pub pending_publication : Option FederatePublication
+  pub grant_horizon : Option Tag
+  pub completed_frontier : Option Tag
   pub pending_inputs : OptionalInputs
   pub completion_generation : ℕ
-  pub completion_probe : OptionalTag
-  pub first_failure : OptionalEnclave
-  pub input_horizon : OptionalTag
+  pub completion_probe : Option Tag
+  pub first_failure : Option ℕ
+  pub input_horizon : Option Tag
   pub input_acquisition : OptionalAcquisition
 
 -- what a rule gives: the next state, and the actions in their order
@@ -76,23 +66,23 @@ pub record Step : Type 0 where
 -- "Events": the seventeen calls
 pub data Call : Type 0 where
   active stopped : ℕ → Call
-  publish : ℕ → OptionalTag → Call
+  publish : ℕ → Option Tag → Call
   complete : ℕ → Tag → Bool → Call
   observed : ℕ → ℕ → Call
-  failed : OptionalEnclave → Call
+  failed : Option ℕ → Call
   acquire : ℕ → Tag → Call
-  sent : ℕ → OptionalTag → OptionalTag → Call
+  sent : ℕ → Option Tag → Option Tag → Call
   observe : ℕ → ℕ → Observation → Call
   idle : ℕ → Call
   stop progress : Call
-  horizon : OptionalTag → Call
+  horizon : Option Tag → Call
   begin late done : ℕ → Tag → Call
   input : List ℕ → Call
 
 -- what a call gives: 0 or the number of its refusal, its answer, and the step
 pub record Result : Type 0 where
   pub refusal : ℕ
-  pub answer : Answer
+  pub answer : Option Bool
   pub step : Step
 
 -- a call, and the bytes of room lent to it

@@ -1,8 +1,8 @@
 -- Document 01, "Observation" with its table of verdicts, and "Idle confirmation" (state.rs: handle_observation, handle_idle_confirmation).
 -- Assumes nothing.
-use Rattle.std.specs.Prelude.{ℕ, ◌+◌, ◌*◌, Bool, true, false, not, cond, ◌&&◌, ◌||◌, List, [], ◌∷◌, eqb, get_or}
+use Rattle.std.specs.Prelude.{ℕ, ◌+◌, ◌*◌, Bool, true, false, not, cond, ◌&&◌, ◌||◌, List, [], ◌∷◌, eqb, get_or, None, Some}
 use Rattle.records.specs.Numbers.{next_revision, phase_number, observation_number}
-use Rattle.rules.specs.Model.{Number, NonePending, LifecyclePolicy, KeepAlive, TerminateWhenIdle, CoordinatedTermination, CoordinationPhase, Probing, Parking, Rechecking, AwaitingIdleConfirmation, Observation, Probed, HasParked, Rechecked, OptionalObservation, Unobserved, Observed, Verdict, Counts, Ignored, Refused, Participant, Probe, Park, Recheck, State, Step}
+use Rattle.rules.specs.Model.{LifecyclePolicy, KeepAlive, TerminateWhenIdle, CoordinatedTermination, CoordinationPhase, Probing, Parking, Rechecking, AwaitingIdleConfirmation, Observation, Probed, HasParked, Rechecked, OptionalObservation, Unobserved, Observed, Verdict, Counts, Ignored, Refused, Participant, Probe, Park, Recheck, State, Step}
 use Rattle.rules.specs.Set.{with_observation, with_phase, with_revision, with_idle_authorization, with_pending_publication}
 use Rattle.rules.specs.Walk.{all, any, every, only, quiet, emit, is, is_number, outdated}
 use Rattle.rules.specs.Publication.{forget}
@@ -81,7 +81,7 @@ observation_of e r o s = cond (unheard r s) (quiet s) (observe_by (verdict_of s.
 -- "pending publication cleared, authorization is the new revision, emit Probe, phase Probing; the completion probe stays"
 abbrev pub probed_again : State → Step
 probed_again s =
-    emit (Probe s.revision ∷ []) (with_idle_authorization (Number s.revision) (with_pending_publication NonePending (with_phase Probing s)))
+    emit (Probe s.revision ∷ []) (with_idle_authorization (Some s.revision) (with_pending_publication None (with_phase Probing s)))
 
 -- "Only in that phase and revision"
 abbrev pub awaits : ℕ → State → Bool

@@ -1,9 +1,9 @@
 -- Walks over the participants ("Participants are walked by ascending index"), and the tests and endings that the step rules share. Assumes nothing.
-use Rattle.std.specs.Prelude.{ℕ, Bool, true, false, not, cond, ◌&&◌, ◌||◌, List, [], ◌∷◌, map, eqb}
-use Rattle.std.proofs.Math.Option.{Option, none, some}
+use Rattle.tags.specs.declared.Tag.{Tag}
+use Rattle.std.specs.Prelude.{ℕ, Bool, true, false, not, cond, ◌&&◌, ◌||◌, List, [], ◌∷◌, map, eqb, None, Option, Some}
 use Rattle.tags.specs.Tags.{lesser_present, greater_present}
 use Rattle.records.specs.Numbers.{phase_number}
-use Rattle.rules.specs.Model.{OptionalTag, NoTag, OptionalNumber, NoNumber, Number, CoordinationPhase, Stopped, Participant, CoordinationAction, State, Step}
+use Rattle.rules.specs.Model.{CoordinationPhase, Stopped, Participant, CoordinationAction, State, Step}
 use Rattle.rules.specs.Set.{with_participants}
 
 abbrev pub all : (Participant → Bool) → List Participant → Bool
@@ -20,18 +20,18 @@ each p f [] = []
 each p f (x ∷ xs) = cond (p x) (f x ∷ each p f xs) (each p f xs)
 
 -- the least and the greatest of those present
-abbrev pub least_of : (Participant → OptionalTag) → List Participant → OptionalTag
-least_of f [] = NoTag
+abbrev pub least_of : (Participant → Option Tag) → List Participant → Option Tag
+least_of f [] = None
 least_of f (x ∷ xs) = lesser_present (f x) (least_of f xs)
 
-abbrev pub greatest_of : (Participant → OptionalTag) → List Participant → OptionalTag
-greatest_of f [] = NoTag
+abbrev pub greatest_of : (Participant → Option Tag) → List Participant → Option Tag
+greatest_of f [] = None
 greatest_of f (x ∷ xs) = greater_present (f x) (greatest_of f xs)
 
 -- the participant of index e
 abbrev pub find : ℕ → List Participant → Option Participant
-find e [] = none
-find e (x ∷ xs) = cond (eqb x.index e) (some x) (find e xs)
+find e [] = None
+find e (x ∷ xs) = cond (eqb x.index e) (Some x) (find e xs)
 
 abbrev pub knows : ℕ → List Participant → Bool
 knows e ps = any (λ p. eqb p.index e) ps
@@ -66,9 +66,9 @@ is h s = eqb (phase_number s.phase) (phase_number h)
 abbrev pub is_stopped : State → Bool
 is_stopped s = is Stopped s
 
-abbrev pub is_number : OptionalNumber → ℕ → Bool
-is_number NoNumber n = false
-is_number (Number m) n = eqb m n
+abbrev pub is_number : Option ℕ → ℕ → Bool
+is_number None n = false
+is_number (Some m) n = eqb m n
 
 -- stopped, or another revision
 abbrev pub outdated : ℕ → State → Bool

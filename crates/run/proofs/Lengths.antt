@@ -1,5 +1,6 @@
 -- An event's lines fit in 5,600 bytes: its own line and each action's line have at most 160, and a call has at most 34 actions. By the lengths of
 -- numbers and tags. Assumes nothing.
+use Rattle.std.specs.Prelude.{None, Option, Some}
 use mathlib.Core.Path.{◌≡◌, refl, ap, ◌∙◌, subst⁻¹}
 use mathlib.Core.Bool.{Bool, true, false, cond}
 use mathlib.Core.List.{List, [], ◌∷◌, ◌++◌}
@@ -10,12 +11,10 @@ use lib.Dec.{T, eqb}
 use lib.IntN.{ℤ, pos, negsuc}
 use lib.ListN.{length, length-append}
 use Rattle.tags.specs.declared.Tag.{Tag}
-use Rattle.tags.specs.declared.OptionalTag.{OptionalTag}
-use Rattle.tags.specs.declared.OptionalTag.TheVariants.{NoTag, At}
 use Rattle.numerals.specs.Numerals.{text}
 use Rattle.numerals.proofs.Splits.{by_order}
 use Rattle.printing.specs.Printing.{digits_of, decimal, integer, tag_text, optional_tag_text}
-use Rattle.rules.specs.Model.{Answer, Silent, No, Yes, Call, CoordinationAction, Publish, AdvanceHorizon, Grant, Complete, CompletionProbe, Probe, Park}
+use Rattle.rules.specs.Model.{Call, CoordinationAction, Publish, AdvanceHorizon, Grant, Complete, CompletionProbe, Probe, Park}
 use Rattle.rules.specs.Model.{Recheck, Resume, Stop, Abort}
 use Rattle.rules.specs.Calls.{call, take_step, refusal}
 use Rattle.rules.proofs.Room.{call-fits-room}
@@ -53,18 +52,18 @@ tag-short t =
     rw (length-append, length-append, length-append, length-append)
     (omega (arith, integer-short t.seconds, integer-short t.nanoseconds, decimal-short t.microstep))
 
-optional-short : (o : OptionalTag) → length (optional_tag_text o) ≤ 64
-optional-short NoTag = omega arith
-optional-short (At t) = tag-short t
+optional-short : (o : Option Tag) → length (optional_tag_text o) ≤ 64
+optional-short None = omega arith
+optional-short (Some t) = tag-short t
 
 mark-short : (b : Bool) → length (mark_text b) ≤ 1
 mark-short false = omega arith
 mark-short true = omega arith
 
-answer-short : (a : Answer) → length (answer_text a) ≤ 1
-answer-short Silent = omega arith
-answer-short No = omega arith
-answer-short Yes = omega arith
+answer-short : (a : Option Bool) → length (answer_text a) ≤ 1
+answer-short None = omega arith
+answer-short (Some false) = omega arith
+answer-short (Some true) = omega arith
 
 -- ---- lines
 
@@ -115,7 +114,7 @@ unfolding action_lines
 actions-short [] = omega arith
 actions-short (a ∷ rest) = rw (length-append (action_line a) (action_lines rest)) (omega (arith, action-short a, actions-short rest))
 
-event-line-short : (k r : ℕ) (a : Answer) (n : ℕ) → length (event_line k r a n) ≤ 160
+event-line-short : (k r : ℕ) (a : Option Bool) (n : ℕ) → length (event_line k r a n) ≤ 160
 unfolding event_line
 event-line-short k r a n =
     omega (arith, four-words (decimal k) (decimal r) (answer_text a) (decimal n), decimal-short k, decimal-short r, answer-short a, decimal-short n)

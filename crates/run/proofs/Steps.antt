@@ -1,8 +1,8 @@
 -- One event at a place: where a line ends there and is an event, it is the item that a run takes; else there is none. Assumes nothing.
+use Rattle.std.specs.Prelude.{None, Option, Some}
 use mathlib.Core.Path.{◌≡◌, refl, sym, ap, ◌∙◌, subst}
 use mathlib.Core.Bool.{Bool, true, false, not}
 use mathlib.Core.List.{List}
-use mathlib.Core.Option.{Option, none, some}
 use Prim.Native.Nat.{ℕ}
 use native.Mathlib.Omega.{arith}
 use lib.Dec.{ltb}
@@ -31,9 +31,9 @@ module _ (script : List ℕ) (at : ℕ) (s : Held) (number written : ℕ) (out :
   pub no-event : is_given (event_of (line_at script at)) ≡ false → StepsBy (item event_of script at) s at number written out out r
   no-event e = none_here (item-none event_of script at (nothing (event_of (line_at script at)) e))
     where
-      nothing : (o : Option Call) → is_given o ≡ false → o ≡ none
-      nothing none h = refl
-      nothing (some c) h = let z : ◌≡◌ {A = ℕ} 0 1 = cc in absurd (omega arith)
+      nothing : (o : Option Call) → is_given o ≡ false → o ≡ None
+      nothing None h = refl
+      nothing (Some c) h = let z : ◌≡◌ {A = ℕ} 0 1 = cc in absurd (omega arith)
 
 module _ (script : List ℕ) (at : ℕ) (s : Held) (number written : ℕ) (out out' : List ℕ) (event : Event) (l : Listed)
     (ended : Bool) (tells : ended ≡ ltb (end_of script at) (length script)) (is : not ended ≡ false) (next : ℕ) (after : next ≡ next_at script at)
@@ -43,8 +43,8 @@ module _ (script : List ℕ) (at : ℕ) (s : Held) (number written : ℕ) (out o
 
   goes : (o : Option Call) → event_of (line_at script at) ≡ o → is_given o ≡ true → ListsBy o s number written out out' l
       → StepsBy (item event_of script at) s at number written out out' gone_on
-  goes none e given h = let z : ◌≡◌ {A = ℕ} 0 1 = cc in absurd (omega arith)
-  goes (some c) e given (state, bytes) =
+  goes None e given h = let z : ◌≡◌ {A = ℕ} 0 1 = cc in absurd (omega arith)
+  goes (Some c) e given (state, bytes) =
       subst (λ x. StepsBy x s at number written out out' gone_on) (sym (item-good event_of script at ended next c tells is after e))
       (ap (λ x. record { moved = true; state = x.state; at = next; written = x.written }) state, bytes)
 

@@ -1,7 +1,7 @@
 -- The call that a declared event tells gives tags of their widths, since the event's own are. Assumes nothing.
+use Rattle.std.specs.Prelude.{None, Option, Some}
 use mathlib.Core.Path.{◌≡◌, subst}
 use mathlib.Core.List.{List}
-use mathlib.Core.Option.{Option, none, some}
 use Prim.Native.Nat.{ℕ}
 use mir.Val.{Val}
 use denote.Laws.{Is}
@@ -16,8 +16,8 @@ use Rattle.writable.specs.Demands.{CallFits}
 use Rattle.writable.proofs.Declared.{tag_fits, optional-fits}
 
 abbrev IfTold : Option Call → Type 0
-IfTold none = Unit {0}
-IfTold (some c) = CallFits c
+IfTold None = Unit {0}
+IfTold (Some c) = CallFits c
 
 told-fits : (e : Event) (es : List ℕ) (vs : List Val) → Is (enum.row event.the_type) e vs → IfTold (told_event e es)
 told-fits NoEvent es vs h = tt
@@ -39,5 +39,5 @@ told-fits (Done e t) es vs h = (tag_fits t _ h.1.1.1.1.1.0, tt)
 told-fits (Input n) es vs h = tt
 told-fits Progress es vs h = tt
 
-pub call_fits : (e : Event) (es : List ℕ) (vs : List Val) → Is (enum.row event.the_type) e vs → (c : Call) → told_event e es ≡ some c → CallFits c
+pub call_fits : (e : Event) (es : List ℕ) (vs : List Val) → Is (enum.row event.the_type) e vs → (c : Call) → told_event e es ≡ Some c → CallFits c
 call_fits e es vs h c told = subst IfTold told (told-fits e es vs h)

@@ -1,6 +1,5 @@
 -- What a run from a place promises. Assumes nothing.
-use Rattle.std.specs.Prelude.{◌≡◌, true, false, List, ℕ, ◌+◌, ◌-◌, length}
-use Rattle.std.proofs.Math.Option.{Option, none, some}
+use Rattle.std.specs.Prelude.{◌≡◌, true, false, List, ℕ, ◌+◌, ◌-◌, length, None, Option, Some}
 use Rattle.octets.specs.Runs.{put_at}
 use Rattle.rules.specs.Model.{Call}
 use Rattle.state.specs.declared.FederateCoordinationState.{FederateCoordinationState as Held}
@@ -28,8 +27,8 @@ pub record Runs (script : List ℕ) (p : Running) (budget : ℕ) (before after :
 
 -- an event that tells a call, taken and listed from `written` on
 abbrev pub ListsBy : Option Call → Held → ℕ → ℕ → List ℕ → List ℕ → Listed → Type 0
-ListsBy none s number written before after r = Unit {0}
-ListsBy (some c) s number written before after r =
+ListsBy None s number written before after r = Unit {0}
+ListsBy (Some c) s number written before after r =
     (r ≡ record { state = state_of (given c) s; written = written + length (event_lines number c s) }) × (after ≡ put_at before written (event_lines number c s))
 
 -- one event at a place: taken by its call and listed from `written` on; or there is none

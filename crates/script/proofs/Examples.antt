@@ -1,4 +1,5 @@
 -- Document 01's worked script is read as it says, and damaged ones are bad at their first bad line: by computation. Assumes nothing.
+use Rattle.std.specs.Prelude.{Some}
 use mathlib.Core.Path.{◌≡◌, refl}
 use mathlib.Core.Bool.{true}
 use mathlib.Core.List.{[], ◌∷◌}
@@ -6,7 +7,7 @@ use Prim.Native.Nat.{ℕ}
 use Prim.Native.String.{String}
 use lib.IntN.{pos}
 use Rattle.numerals.specs.Numerals.{text, number_of, integer_of, tag_of, optional_tag_of}
-use Rattle.rules.specs.Model.{Tag, At, TerminateWhenIdle, publish, acquire, complete, observed}
+use Rattle.rules.specs.Model.{Tag, TerminateWhenIdle, publish, acquire, complete, observed}
 use Rattle.events.specs.Events.{event_number, without_fields, with_one_field, with_two_fields, with_three_fields, event_of}
 use Rattle.script.specs.Lines.{Bad, Good, item, items}
 use Rattle.script.specs.Script.{header_of, script_of}
@@ -22,7 +23,7 @@ worked-script-reads : script_of
       revision = 0;
       generation = 0;
       events_at = 53;
-      events = publish 3 (At (tag 5)) ∷ publish 7 (At (tag 9)) ∷ acquire 2 (tag 5) ∷ complete 3 (tag 5) true ∷ observed 7 1 ∷ [];
+      events = publish 3 (Some (tag 5)) ∷ publish 7 (Some (tag 9)) ∷ acquire 2 (tag 5) ∷ complete 3 (tag 5) true ∷ observed 7 1 ∷ [];
     }) 133
 unfolding script_of item items header_of number_of integer_of tag_of optional_tag_of event_of event_number with_two_fields with_three_fields
 worked-script-reads = refl

@@ -1,9 +1,9 @@
 -- Laws of the items of a script: when the line at a place is good and when it is bad, how many items are read, and that so many and then so many more
 -- are read one after the other. Assumes nothing.
+use Rattle.std.specs.Prelude.{None, Option, Some}
 use mathlib.Core.Path.{◌≡◌, refl, sym, ap, ◌∙◌}
 use mathlib.Core.Bool.{Bool, true, false, not, cond}
 use mathlib.Core.List.{List, [], ◌∷◌, ◌++◌}
-use mathlib.Core.Option.{Option, none, some}
 use Prim.Native.Nat.{ℕ, zero, suc, ◌+◌, ◌<◌}
 use native.Mathlib.Nat.{zero-add, suc-add}
 use native.Mathlib.Omega.{arith}
@@ -20,7 +20,7 @@ module _ {X : Type 0} (read : List ℕ → Option X) (script : List ℕ) (at : �
   unfolding item
   item-unended ended e h = rw (sym e, not-true ended h) refl
 
-  pub item-none : read (line_at script at) ≡ none → item read script at ≡ Bad at
+  pub item-none : read (line_at script at) ≡ None → item read script at ≡ Bad at
   unfolding item
   item-none h = rw h (by (ltb (end_of script at) (length script)))
     where
@@ -29,7 +29,7 @@ module _ {X : Type 0} (read : List ℕ → Option X) (script : List ℕ) (at : �
       by false = refl
 
   pub item-good : (ended : Bool) (next : ℕ) (x : X) → ended ≡ ltb (end_of script at) (length script) → not ended ≡ false → next ≡ next_at script at
-      → read (line_at script at) ≡ some x → item read script at ≡ Good x next
+      → read (line_at script at) ≡ Some x → item read script at ≡ Good x next
   unfolding item
   item-good ended next x e h n r = rw (n, r, sym e, not-false ended h) refl
 
@@ -41,7 +41,7 @@ module _ {X : Type 0} (read : List ℕ → Option X) (script : List ℕ) (at : �
   -- what a good item tells of its line
   pub record Told (x : X) (next : ℕ) : Type 0 where
     pub ended : end_of script at < length script
-    pub reads : read (line_at script at) ≡ some x
+    pub reads : read (line_at script at) ≡ Some x
     pub after : next ≡ end_of script at + 1
 
   pub good-tells : (x : X) (next : ℕ) → item read script at ≡ Good x next → Told x next
@@ -50,12 +50,12 @@ module _ {X : Type 0} (read : List ℕ → Option X) (script : List ℕ) (at : �
     where
       by : (t : Bool) (o : Option X) → ltb (end_of script at) (length script) ≡ t → read (line_at script at) ≡ o
           → cond t (or_bad at o (end_of script at + 1)) (Bad at) ≡ Good x next → Told x next
-      by true (some y) p q e = record {
+      by true (Some y) p q e = record {
         ended = ltb-true (end_of script at) (length script) p;
         reads = cc;
         after = cc;
       }
-      by true none p q e = let z : ◌≡◌ {A = ℕ} 0 1 = cc in absurd (omega arith)
+      by true None p q e = let z : ◌≡◌ {A = ℕ} 0 1 = cc in absurd (omega arith)
       by false o p q e = let z : ◌≡◌ {A = ℕ} 0 1 = cc in absurd (omega arith)
 
 -- ---- several

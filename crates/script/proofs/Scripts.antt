@@ -1,14 +1,14 @@
 -- What the steps of the reading come to, on plain values: one law for each way in which the sections are read, up to the first bad line. Assumes nothing.
+use Rattle.std.specs.Prelude.{None, Some}
 use mathlib.Core.Path.{◌≡◌, refl, sym, ap, ◌∙◌}
 use mathlib.Core.Bool.{true, false}
 use mathlib.Core.List.{List}
-use mathlib.Core.Option.{none, some}
 use Prim.Native.Nat.{ℕ, ◌-◌, ◌^◌, ◌<◌, ◌≤◌, min}
 use native.Mathlib.Nat.{zero-add}
 use native.Mathlib.Omega.{arith}
 use borrow.Author.Tests.{lt-ltb, le-ltb, eq-eqb, ne_eqb}
 use lib.ListN.{length, replicate}
-use Rattle.records.specs.declared.Refusal.TheVariants.{Taken, ScriptOutOfForm, ScriptTooLong}
+use Rattle.records.specs.declared.Refusal.TheVariants.{ScriptOutOfForm, ScriptTooLong}
 use Rattle.rules.specs.Model.{LifecyclePolicy, KeepAlive, TerminateWhenIdle, CoordinatedTermination, Call}
 use Rattle.octets.specs.Runs.{same_bytes}
 use Rattle.numerals.specs.Numerals.{text}
@@ -49,7 +49,7 @@ module _ (bytes ps : List ℕ) (policy : LifecyclePolicy) (revision generation a
   abbrev told : ReadScript
   told = answered (events_of bytes ps policy revision generation at)
 
-  pub events-uncounted : Bad at ≡ item (header_of (text "events") 4096) bytes at → refused_at ScriptOutOfForm at ≡ told
+  pub events-uncounted : Bad at ≡ item (header_of (text "events") 4096) bytes at → refused_at (Some ScriptOutOfForm) at ≡ told
   unfolding answered
   events-uncounted e = rw (sym e) refl
 
@@ -64,26 +64,26 @@ module _ (bytes ps : List ℕ) (policy : LifecyclePolicy) (revision generation a
     counted : told ≡ answered (after (items n event_of bytes first))
     counted = rw (sym counts) refl
 
-    pub events-bad : (place : ℕ) → BadAt place ≡ passed_of (items n event_of bytes first) → refused_at ScriptOutOfForm place ≡ told
+    pub events-bad : (place : ℕ) → BadAt place ≡ passed_of (items n event_of bytes first) → refused_at (Some ScriptOutOfForm) place ≡ told
     unfolding answered
     events-bad place e = by (items n event_of bytes first) e ∙ sym counted
       where
-        by : (r : Reading (List Call)) → BadAt place ≡ passed_of r → refused_at ScriptOutOfForm place ≡ answered (after r)
+        by : (r : Reading (List Call)) → BadAt place ≡ passed_of r → refused_at (Some ScriptOutOfForm) place ≡ answered (after r)
         by (Bad p) e = let z : place ≡ p = cc in rw z refl
         by (Good events last) e = let z : ◌≡◌ {A = ℕ} 0 1 = cc in absurd (omega arith)
 
     module _ (last : ℕ) (passes : EndsAt last ≡ passed_of (items n event_of bytes first)) where
-      pub events-followed : (last ≡ length bytes → ⊥) → refused_at ScriptOutOfForm last ≡ told
+      pub events-followed : (last ≡ length bytes → ⊥) → refused_at (Some ScriptOutOfForm) last ≡ told
       unfolding answered
       events-followed differs = by (items n event_of bytes first) passes ∙ sym counted
         where
-          by : (r : Reading (List Call)) → EndsAt last ≡ passed_of r → refused_at ScriptOutOfForm last ≡ answered (after r)
+          by : (r : Reading (List Call)) → EndsAt last ≡ passed_of r → refused_at (Some ScriptOutOfForm) last ≡ answered (after r)
           by (Bad p) e = let z : ◌≡◌ {A = ℕ} 0 1 = cc in absurd (omega arith)
           by (Good events p) e = let z : p ≡ last = cc in rw (z, ne_eqb last (length bytes) differs) refl
 
       pub events-read : (participants : List ℕ) (count : ℕ) → Kept ps participants count → last ≡ length bytes
           → record {
-            refusal = Taken;
+            refusal = None;
             place = 0;
             participants = participants;
             count = count;
@@ -98,7 +98,7 @@ module _ (bytes ps : List ℕ) (policy : LifecyclePolicy) (revision generation a
         where
           by : (r : Reading (List Call)) → items n event_of bytes first ≡ r → EndsAt last ≡ passed_of r
               → record {
-                refusal = Taken;
+                refusal = None;
                 place = 0;
                 participants = padded 33 ps;
                 count = min 33 (length ps);
@@ -119,22 +119,22 @@ module _ (bytes ps : List ℕ) (at : ℕ) where
   abbrev all : ReadScript
   all = answered (settings_and_events_of bytes ps at)
 
-  pub settings-bad : Bad at ≡ item settings_of bytes at → refused_at ScriptOutOfForm at ≡ all
+  pub settings-bad : Bad at ≡ item settings_of bytes at → refused_at (Some ScriptOutOfForm) at ≡ all
   unfolding answered
   settings-bad e = rw (sym e) refl
 
   module _ (three second : ℕ) (first_read : Good three second ≡ item settings_of bytes at) where
-    pub policy-bad : Bad second ≡ item policy_of bytes second → refused_at ScriptOutOfForm second ≡ all
+    pub policy-bad : Bad second ≡ item policy_of bytes second → refused_at (Some ScriptOutOfForm) second ≡ all
     unfolding answered
     policy-bad e = rw (sym first_read, sym e) refl
 
     module _ (policy : LifecyclePolicy) (third : ℕ) (second-read : Good policy third ≡ item policy_of bytes second) where
-      pub revision-bad : Bad third ≡ item wide_of bytes third → refused_at ScriptOutOfForm third ≡ all
+      pub revision-bad : Bad third ≡ item wide_of bytes third → refused_at (Some ScriptOutOfForm) third ≡ all
       unfolding answered
       revision-bad e = rw (sym first_read, sym second-read, sym e) refl
 
       module _ (revision fourth : ℕ) (third-read : Good revision fourth ≡ item wide_of bytes third) where
-        pub generation-bad : Bad fourth ≡ item wide_of bytes fourth → refused_at ScriptOutOfForm fourth ≡ all
+        pub generation-bad : Bad fourth ≡ item wide_of bytes fourth → refused_at (Some ScriptOutOfForm) fourth ≡ all
         unfolding answered
         generation-bad e = rw (sym first_read, sym second-read, sym third-read, sym e) refl
 
@@ -145,24 +145,24 @@ module _ (bytes ps : List ℕ) (at : ℕ) where
 -- ---- the policy
 
 module _ (line l : List ℕ) (is : l ≡ line) where
-  pub policy-keep : same_bytes l (text "keep") ≡ true → policy_of line ≡ some KeepAlive
+  pub policy-keep : same_bytes l (text "keep") ≡ true → policy_of line ≡ Some KeepAlive
   policy-keep a = rw (sym is, a) refl
 
-  pub policy-terminate : same_bytes l (text "keep") ≡ false → same_bytes l (text "terminate") ≡ true → policy_of line ≡ some TerminateWhenIdle
+  pub policy-terminate : same_bytes l (text "keep") ≡ false → same_bytes l (text "terminate") ≡ true → policy_of line ≡ Some TerminateWhenIdle
   policy-terminate a b = rw (sym is, a, b) refl
 
   pub policy-coordinated : same_bytes l (text "keep") ≡ false → same_bytes l (text "terminate") ≡ false → same_bytes l (text "coordinated") ≡ true
-      → policy_of line ≡ some CoordinatedTermination
+      → policy_of line ≡ Some CoordinatedTermination
   policy-coordinated a b d = rw (sym is, a, b, d) refl
 
   pub policy-none : same_bytes l (text "keep") ≡ false → same_bytes l (text "terminate") ≡ false → same_bytes l (text "coordinated") ≡ false
-      → policy_of line ≡ none
+      → policy_of line ≡ None
   policy-none a b d = rw (sym is, a, b, d) refl
 
 -- ---- the participants, and the whole
 
 module _ (bytes : List ℕ) where
-  pub script-long : 65536 < length bytes → refused_at ScriptTooLong 0 ≡ read_script_of bytes
+  pub script-long : 65536 < length bytes → refused_at (Some ScriptTooLong) 0 ≡ read_script_of bytes
   unfolding read_script_of
   script-long h = rw (lt-ltb 65536 (length bytes) h) refl
 
@@ -171,7 +171,7 @@ module _ (bytes : List ℕ) where
     unfolding read_script_of
     short = rw (le-ltb 65536 (length bytes) h) refl
 
-    pub participants-uncounted : Bad 0 ≡ item (header_of (text "participants") (2 ^ 32 - 1)) bytes 0 → refused_at ScriptOutOfForm 0 ≡ read_script_of bytes
+    pub participants-uncounted : Bad 0 ≡ item (header_of (text "participants") (2 ^ 32 - 1)) bytes 0 → refused_at (Some ScriptOutOfForm) 0 ≡ read_script_of bytes
     unfolding answered script_of
     participants-uncounted e = sym (short ∙ rw (sym e) refl)
 
@@ -185,12 +185,12 @@ module _ (bytes : List ℕ) where
       rest = short ∙ rw (sym counts) refl
 
       module _ (read : Participants) (is : read ≡ gathered (replicate 33 0) 0 (items n word_of bytes first)) where
-        pub participants-bad : (place : ℕ) → read.passed ≡ BadAt place → refused_at ScriptOutOfForm place ≡ read_script_of bytes
+        pub participants-bad : (place : ℕ) → read.passed ≡ BadAt place → refused_at (Some ScriptOutOfForm) place ≡ read_script_of bytes
         unfolding answered
         participants-bad place e = by (items n word_of bytes first) (sym e ∙ ap (λ r. r.passed) is) ∙ sym rest
           where
             by : (r : Reading (List ℕ)) → BadAt place ≡ (gathered (replicate 33 0) 0 r).passed
-                → refused_at ScriptOutOfForm place ≡ answered (onward r)
+                → refused_at (Some ScriptOutOfForm) place ≡ answered (onward r)
             by (Bad p) e = let z : place ≡ p = cc in rw z refl
             by (Good ps next) e = let z : ◌≡◌ {A = ℕ} 0 1 = cc in absurd (omega arith)
 

@@ -1,8 +1,8 @@
 -- One turn of each loop over the lines of a section, on plain values: what is read of the rest from here is what is read of all. Assumes nothing.
+use Rattle.std.specs.Prelude.{None, Option, Some}
 use mathlib.Core.Path.{◌≡◌, refl, sym, ap, ◌∙◌}
 use mathlib.Core.Bool.{Bool, true, false, not}
 use mathlib.Core.List.{List, [], ◌∷◌}
-use mathlib.Core.Option.{Option, none, some}
 use Prim.Native.Nat.{ℕ, zero, suc, ◌+◌, ◌-◌, ◌<◌, ◌≤◌, min}
 use native.Mathlib.Numerals.{add-one}
 use native.Mathlib.Omega.{arith}
@@ -37,15 +37,15 @@ module _ (script : List ℕ) (at : ℕ) (line : List ℕ) (is : line ≡ line_at
   pass-event ended next e h n t = by (event_of (line_at script at)) refl (sym t ∙ here)
     where
       by : (o : Option Call) → event_of (line_at script at) ≡ o → true ≡ is_given o → EndsAt next ≡ passed_of (item event_of script at)
-      by none r s = let z : ◌≡◌ {A = ℕ} 0 1 = cc in absurd (omega arith)
-      by (some x) r s = rw (item-good event_of script at ended next x e h n r) refl
+      by None r s = let z : ◌≡◌ {A = ℕ} 0 1 = cc in absurd (omega arith)
+      by (Some x) r s = rw (item-good event_of script at ended next x e h n r) refl
 
   pub pass-no-event : b ≡ false → BadAt at ≡ passed_of (item event_of script at)
   pass-no-event f = by (event_of (line_at script at)) refl (sym f ∙ here)
     where
       by : (o : Option Call) → event_of (line_at script at) ≡ o → false ≡ is_given o → BadAt at ≡ passed_of (item event_of script at)
-      by none r s = rw (item-none event_of script at r) refl
-      by (some x) r s = let z : ◌≡◌ {A = ℕ} 0 1 = cc in absurd (omega arith)
+      by None r s = rw (item-none event_of script at r) refl
+      by (Some x) r s = let z : ◌≡◌ {A = ℕ} 0 1 = cc in absurd (omega arith)
 
 module _ {X : Type 0} (read : List ℕ → Option X) (script : List ℕ) (left at : ℕ) (h : 0 < left) where
   more : left ≡ suc (left - 1)
@@ -79,11 +79,11 @@ pass-done read script left at h = let z : left ≡ 0 = omega arith in rw z refl
 
 -- the indices put into the places from the first on are the list, cut or padded
 pub sets-padded : (k : ℕ) (xs : List ℕ) → sets (replicate k 0) 0 xs ≡ padded k xs
-sets-padded zero xs = none xs 0
+sets-padded zero xs = None xs 0
   where
-    none : (xs : List ℕ) (i : ℕ) → sets [] i xs ≡ []
-    none [] i = refl
-    none (x ∷ xs) i = none xs (suc i)
+    None : (xs : List ℕ) (i : ℕ) → sets [] i xs ≡ []
+    None [] i = refl
+    None (x ∷ xs) i = None xs (suc i)
 sets-padded (suc k) [] = ap (λ l. 0 ∷ l) (sets-padded k [])
 sets-padded (suc k) (x ∷ xs) = after x (replicate k 0) 0 xs ∙ ap (λ l. x ∷ l) (sets-padded k xs)
   where

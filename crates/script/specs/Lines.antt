@@ -1,7 +1,6 @@
 -- Document 01, "Script and its listing": what is read of the lines of a script, from a place in it, in order. "One item a line, LF-ended";
 -- "11 names the first byte of the first bad line .., or the length if a line is lacking." Assumes nothing.
-use Rattle.std.specs.Prelude.{ℕ, zero, suc, ◌+◌, cond, List, [], ◌∷◌, ltb, length}
-use Rattle.std.proofs.Math.Option.{Option, none, some}
+use Rattle.std.specs.Prelude.{ℕ, zero, suc, ◌+◌, cond, List, [], ◌∷◌, ltb, length, None, Option, Some}
 use Rattle.reader.specs.Lines.{line_at, end_of}
 
 -- something read, with the place after it; or the place of the bad line
@@ -14,8 +13,8 @@ and_then (Bad place) f = Bad place
 and_then (Good x next) f = f x next
 
 abbrev pub or_bad : {X : Type 0} → ℕ → Option X → ℕ → Reading X
-or_bad place none next = Bad place
-or_bad place (some x) next = Good x next
+or_bad place None next = Bad place
+or_bad place (Some x) next = Good x next
 
 -- the line at a place as `read` understands it: bad if it has no LF (no line is there, or it is the last and not ended), or if it is not of that form
 unfoldable pub item : {X : Type 0} → (List ℕ → Option X) → List ℕ → ℕ → Reading X

@@ -1,6 +1,5 @@
 -- Document 01, "Script and its listing": a script, its three sections in their order, each after its count. Assumes nothing.
-use Rattle.std.specs.Prelude.{ℕ, ◌-◌, ◌^◌, cond, List, [], ◌∷◌, eqb, length}
-use Rattle.std.proofs.Math.Option.{Option, none, some}
+use Rattle.std.specs.Prelude.{ℕ, ◌-◌, ◌^◌, cond, List, [], ◌∷◌, eqb, length, None, Option, Some}
 use Rattle.octets.specs.Runs.{same_bytes}
 use Rattle.numerals.specs.Numerals.{text, split, space, number_of}
 use Rattle.rules.specs.Model.{LifecyclePolicy, KeepAlive, TerminateWhenIdle, CoordinatedTermination, Call}
@@ -18,18 +17,18 @@ pub record Script : Type 0 where
 
 -- a section's first line: its word and a count, at most so many
 abbrev pub counted : List ℕ → ℕ → List (List ℕ) → Option ℕ
-counted word most [] = none
-counted word most (w ∷ []) = none
-counted word most (w ∷ n ∷ []) = cond (same_bytes w word) (number_of most n) none
-counted word most (w ∷ n ∷ x ∷ xs) = none
+counted word most [] = None
+counted word most (w ∷ []) = None
+counted word most (w ∷ n ∷ []) = cond (same_bytes w word) (number_of most n) None
+counted word most (w ∷ n ∷ x ∷ xs) = None
 
 unfoldable pub header_of : List ℕ → ℕ → List ℕ → Option ℕ
 header_of word most line = counted word most (split space line)
 
 -- `settings 3`
 abbrev pub is_three : Option ℕ → Option ℕ
-is_three none = none
-is_three (some n) = cond (eqb n 3) (some n) none
+is_three None = None
+is_three (Some n) = cond (eqb n 3) (Some n) None
 
 abbrev pub settings_of : List ℕ → Option ℕ
 settings_of line = is_three (header_of (text "settings") (2 ^ 32 - 1) line)
@@ -37,9 +36,9 @@ settings_of line = is_three (header_of (text "settings") (2 ^ 32 - 1) line)
 -- "policy `keep`, `terminate` or `coordinated`"
 abbrev pub policy_of : List ℕ → Option LifecyclePolicy
 policy_of line =
-    cond (same_bytes line (text "keep")) (some KeepAlive)
-    (cond (same_bytes line (text "terminate")) (some TerminateWhenIdle)
-    (cond (same_bytes line (text "coordinated")) (some CoordinatedTermination) none))
+    cond (same_bytes line (text "keep")) (Some KeepAlive)
+    (cond (same_bytes line (text "terminate")) (Some TerminateWhenIdle)
+    (cond (same_bytes line (text "coordinated")) (Some CoordinatedTermination) None))
 
 -- "bytes after the last event" are a bad line
 abbrev pub ended : List ℕ → Script → ℕ → Reading Script

@@ -5,7 +5,6 @@
 
 ghost use Rattle.std.specs.Prelude.{◌≡◌, List, ℕ, ◌-◌, ◌^◌, ◌≤◌, length, set, replicate};
 ghost use Rattle.numerals.specs.Numerals.{number_of};
-ghost use Rattle.numerals.specs.Told.{told_number};
 ghost use Rattle.events.specs.Events.{word_of, event_of};
 ghost use Rattle.events.specs.Told.{is_given};
 ghost use Rattle.script.specs.Lines.{item, items};
@@ -14,13 +13,13 @@ ghost use Rattle.script.specs.Read.{refused_at, answered, read_script_of};
 ghost use Rattle.script.specs.Told.{told_count, told_choice, passed_of, gathered, Kept};
 
 use events::Event;
-use records::{LifecyclePolicy, OptionalNumber, Refusal};
+use records::{LifecyclePolicy, Refusal};
 
 // `Taken` and what the script says, its events by their place and number; or why it is refused and, for 11, at which place.
 // Of the participants the first 33 are kept: at most 32 open, and a thirty-third says that there are too many.
 #[derive(Clone, Copy)]
 pub struct ReadScript {
-    pub refusal: Refusal,
+    pub refusal: Option<Refusal>,
     pub place: usize,
     pub participants: [u32; 33],
     pub count: usize,
@@ -63,45 +62,45 @@ struct Participants {
 // ---- items
 
 // The count that a line tells after this word, at most so many.
-fn header(line: &[u8], word: &[u8], most: u64) -> OptionalNumber
-    ensures { told_number result ≡ header_of word.now most line.now }
+fn header(line: &[u8], word: &[u8], most: u64) -> Option<u64>
+    ensures { result ≡ header_of word.now most line.now }
 {
     let first = numerals::find(line, 32);
     if line.len() <= first {
-        return OptionalNumber::NoNumber;
+        return None;
     }
     let rest = &line[first + 1..];
     let second = numerals::find(rest, 32);
     if second < rest.len() {
-        return OptionalNumber::NoNumber;
+        return None;
     }
     if octets::same_bytes(&line[..first], word) {
         return numerals::number(rest, most);
     }
-    OptionalNumber::NoNumber
+    None
 }
 
 // The count of the settings, which is three.
-fn only_three(read: OptionalNumber) -> OptionalNumber
-    ensures { told_number result ≡ is_three (told_number read) }
+fn only_three(read: Option<u64>) -> Option<u64>
+    ensures { result ≡ is_three read }
 {
-    let OptionalNumber::Number(n) = read else {
-        return OptionalNumber::NoNumber;
+    let Some(n) = read else {
+        return None;
     };
     if n == 3 {
-        return OptionalNumber::Number(n);
+        return Some(n);
     }
-    OptionalNumber::NoNumber
+    None
 }
 
 // The line at a place, where its text was read as this number.
-fn count_at(script: &[u8], at: usize, read: OptionalNumber) -> Counted
-    ensures { told_count at result ≡ item (λ line. told_number read) script.now at }
+fn count_at(script: &[u8], at: usize, read: Option<u64>) -> Counted
+    ensures { told_count at result ≡ item (λ line. read) script.now at }
 {
     if !reader::is_ended(script, at) {
         return Counted::BadLine;
     }
-    let OptionalNumber::Number(n) = read else {
+    let Some(n) = read else {
         return Counted::BadLine;
     };
     let next = reader::place_after(script, at);
@@ -235,7 +234,7 @@ fn pass_events(script: &[u8], from: usize, number: u64) -> Passed
 
 // ---- the script
 
-fn refused(refusal: Refusal, place: usize) -> ReadScript
+fn refused(refusal: Option<Refusal>, place: usize) -> ReadScript
     ensures { result ≡ refused_at refusal place }
 {
     ReadScript {
@@ -263,17 +262,17 @@ fn read_events(
     ensures { (ps : List ℕ) → Kept ps participants count → result ≡ answered (events_of bytes.now ps policy revision generation at) }
 {
     let Counted::Count(events, first) = header_at(bytes, at, b"events", 4096) else {
-        return refused(Refusal::ScriptOutOfForm, at);
+        return refused(Some(Refusal::ScriptOutOfForm), at);
     };
     let last = match pass_events(bytes, first, events) {
-        Passed::BadAt(place) => return refused(Refusal::ScriptOutOfForm, place),
+        Passed::BadAt(place) => return refused(Some(Refusal::ScriptOutOfForm), place),
         Passed::EndsAt(last) => last,
     };
     if last != bytes.len() {
-        return refused(Refusal::ScriptOutOfForm, last);
+        return refused(Some(Refusal::ScriptOutOfForm), last);
     }
     ReadScript {
-        refusal: Refusal::Taken,
+        refusal: None,
         place: 0,
         participants,
         count,
@@ -289,16 +288,16 @@ fn read_settings(bytes: &[u8], participants: [u32; 33], count: usize, at: usize)
     ensures { (ps : List ℕ) → Kept ps participants count → result ≡ answered (settings_and_events_of bytes.now ps at) }
 {
     let Counted::Count(_, second) = settings_at(bytes, at) else {
-        return refused(Refusal::ScriptOutOfForm, at);
+        return refused(Some(Refusal::ScriptOutOfForm), at);
     };
     let Chosen::Choice(policy, third) = policy_at(bytes, second) else {
-        return refused(Refusal::ScriptOutOfForm, second);
+        return refused(Some(Refusal::ScriptOutOfForm), second);
     };
     let Counted::Count(revision, fourth) = number_at(bytes, third, 18446744073709551615) else {
-        return refused(Refusal::ScriptOutOfForm, third);
+        return refused(Some(Refusal::ScriptOutOfForm), third);
     };
     let Counted::Count(generation, fifth) = number_at(bytes, fourth, 18446744073709551615) else {
-        return refused(Refusal::ScriptOutOfForm, fourth);
+        return refused(Some(Refusal::ScriptOutOfForm), fourth);
     };
     read_events(
         bytes,
@@ -316,15 +315,15 @@ pub fn read_script(bytes: &[u8]) -> ReadScript
     ensures { result ≡ read_script_of bytes.now }
 {
     if 65536 < bytes.len() {
-        return refused(Refusal::ScriptTooLong, 0);
+        return refused(Some(Refusal::ScriptTooLong), 0);
     }
     let Counted::Count(number, first) = header_at(bytes, 0, b"participants", 4294967295) else {
-        return refused(Refusal::ScriptOutOfForm, 0);
+        return refused(Some(Refusal::ScriptOutOfForm), 0);
     };
     let read = read_participants(bytes, first, number);
     let passed = read.passed;
     match passed {
-        Passed::BadAt(place) => refused(Refusal::ScriptOutOfForm, place),
+        Passed::BadAt(place) => refused(Some(Refusal::ScriptOutOfForm), place),
         Passed::EndsAt(next) => {
             let indices = read.indices;
             read_settings(bytes, indices, read.count, next)

@@ -1,5 +1,7 @@
 -- A script opened, and the two lines that a run lists besides its events. Of the participants read the first 33 are kept: where there are at most 32 these
 -- are all of them, and where there are more both they and all of them are refused 5. So the opening of those kept is the opening of all. Assumes nothing.
+use Rattle.std.specs.Prelude.{None, Option, Some}
+use Rattle.tags.specs.declared.Tag.{Tag}
 use mathlib.Core.Path.{◌≡◌, refl, sym, ap, ◌∙◌, subst}
 use mathlib.Core.Bool.{Bool, true, false, cond, ◌&&◌}
 use mathlib.Core.List.{List}
@@ -11,7 +13,7 @@ use lib.ListN.{length, take}
 use lib.Seq.{length-take-le}
 use Rattle.records.specs.Numbers.{refusal_number}
 use Rattle.records.specs.declared.Refusal.TheVariants.{ScriptTooLong}
-use Rattle.rules.specs.Model.{NoTag, OptionalTag, CoordinationPhase, Active, LifecyclePolicy}
+use Rattle.rules.specs.Model.{CoordinationPhase, Active, LifecyclePolicy}
 use Rattle.rules.specs.Opening.{opening_refusal}
 use Rattle.rules.specs.Calls.{is_sound}
 use Rattle.rules.specs.Queries.{is_settled}
@@ -68,7 +70,7 @@ module _ (policy : LifecyclePolicy) (revision generation : ℕ) where
 -- ---- what the reading answers, by whether the script is too long and by its form
 
 abbrev reading : Bool → Reading Script → ReadScript
-reading long form = cond long (refused_at ScriptTooLong 0) (answered form)
+reading long form = cond long (refused_at (Some ScriptTooLong) 0) (answered form)
 
 counts : (long : Bool) (form : Reading Script) → (reading long form).count ≤ length (reading long form).participants
 unfolding answered
@@ -152,11 +154,11 @@ lists-line {most} {n} {line} {put} {room} h p e =
     record { written = rw (le-ltb (length room) most h) (omega (arith, p.after)); bytes = rw (le-ltb (length room) most h) p.bytes }
 
 -- the last line, of a state that 27 refuses and of one that it takes
-pub end_refused : (s : Held) → (represents s && is_sound (view s)) ≡ false → end_line 0 Active 0 NoTag NoTag false ≡ last_line s
+pub end_refused : (s : Held) → (represents s && is_sound (view s)) ≡ false → end_line 0 Active 0 None None false ≡ last_line s
 unfolding last_line
 end_refused s h = rw h refl
 
-pub end-told : (s : Held) {phase : CoordinationPhase} {frontier horizon : OptionalTag} {settled : Bool} → (represents s && is_sound (view s)) ≡ true
+pub end-told : (s : Held) {phase : CoordinationPhase} {frontier horizon : Option Tag} {settled : Bool} → (represents s && is_sound (view s)) ≡ true
     → phase ≡ (view s).phase → frontier ≡ (view s).completed_frontier → horizon ≡ (view s).grant_horizon → settled ≡ is_settled (view s)
     → end_line s.coordination.revision phase s.completion.completion_generation frontier horizon settled ≡ last_line s
 unfolding last_line

@@ -1,7 +1,7 @@
 -- Document 01, "Script and its listing": the last line of a listing, the line of a refusal, and the whole listing of a script. Assumes nothing.
-use Rattle.std.specs.Prelude.{ℕ, ◌≡◌, false, cond, List, ◌++◌, eqb, ltb, length, take}
+use Rattle.std.specs.Prelude.{ℕ, ◌≡◌, false, cond, List, ◌++◌, eqb, ltb, length, take, None}
 use Rattle.octets.specs.Runs.{put_at}
-use Rattle.rules.specs.Model.{NoTag, Active}
+use Rattle.rules.specs.Model.{Active}
 use Rattle.rules.specs.Opening.{opening_refusal}
 use Rattle.rules.specs.Queries.{is_settled}
 use Rattle.state.specs.declared.FederateCoordinationState.{FederateCoordinationState as Held}
@@ -17,7 +17,7 @@ use Rattle.session.specs.Open.{is_too_long}
 unfoldable pub last_line : Held → List ℕ
 last_line s =
     end_line (ask_held 0 (λ m. m.revision) s).answer (ask_held Active (λ m. m.phase) s).answer (ask_held 0 (λ m. m.completion_generation) s).answer
-    (ask_held NoTag (λ m. m.completed_frontier) s).answer (ask_held NoTag (λ m. m.grant_horizon) s).answer (ask_held false is_settled s).answer
+    (ask_held None (λ m. m.completed_frontier) s).answer (ask_held None (λ m. m.grant_horizon) s).answer (ask_held false is_settled s).answer
 
 abbrev pub refusal_line : ℕ → ℕ → List ℕ
 refusal_line refusal place = cond (eqb refusal 11) (misplaced_line place) (refused_line refusal)

@@ -9,12 +9,11 @@ ghost use Rattle.session.specs.Listing.{refusal_line, last_line, Lists};
 use records::{CoordinationPhase, Refusal};
 use run::Running;
 use state::FederateCoordinationState;
-use tags::OptionalTag;
 
 // A script opened: `Taken` and where its run begins; or why it was refused and, for 11, at which place.
 #[derive(Clone, Copy)]
 pub struct Opened {
-    pub refusal: Refusal,
+    pub refusal: Option<Refusal>,
     pub place: usize,
     pub start: Running,
 }
@@ -48,7 +47,7 @@ pub fn open(bytes: &[u8]) -> Opened
 }
 
 // Lists why a script was refused, from byte 0 of the room, and answers how many bytes that took; none if the room has less than 160.
-pub fn list_refusal(refusal: Refusal, place: usize, out: &mut [u8]) -> usize
+pub fn list_refusal(refusal: Option<Refusal>, place: usize, out: &mut [u8]) -> usize
     ensures { Lists 160 (refusal_line (refusal_number refusal) place) out.old out.new result }
 {
     if out.len() < 160 {
@@ -76,8 +75,8 @@ pub fn list_end(state: FederateCoordinationState, out: &mut [u8]) -> usize
             0,
             phase,
             0,
-            OptionalTag::NoTag,
-            OptionalTag::NoTag,
+            None,
+            None,
             false,
         );
     }

@@ -1,5 +1,7 @@
 -- Columns written over: what stands at each place of `over`, of one run of values and of the three runs of the columns of tags, and that a column
 -- with those cells is that one. By the stores that it amounts to, and by places. Assumes nothing.
+use Rattle.std.specs.Prelude.{Option}
+use Rattle.tags.specs.declared.Tag.{Tag}
 use mathlib.Core.Path.{◌≡◌, refl, sym, ap, ◌∙◌, subst}
 use mathlib.Core.Bool.{Bool, true, false}
 use mathlib.Core.List.{List, [], ◌∷◌}
@@ -9,7 +11,7 @@ use lib.Dec.{ltb}
 use lib.ListN.{length, get_or, set, length-set}
 use lib.Seq.{sets, sets-eq, length-sets, get_or-set_same, get_or-set_other, ext_get_or}
 use borrow.Author.Tests.{ltb-true, ltb-false}
-use Rattle.rules.specs.Model.{OptionalTag, Participant}
+use Rattle.rules.specs.Model.{Participant}
 use Rattle.state.specs.View.{over}
 
 -- ---- a run of stores
@@ -72,7 +74,7 @@ place OfCandidate j = j
 place OfCompleted j = 32 + j
 place OfStarted j = 64 + j
 
-abbrev pub tag_of : Kind → Participant → OptionalTag
+abbrev pub tag_of : Kind → Participant → Option Tag
 tag_of OfCandidate p = p.candidate
 tag_of OfCompleted p = p.completed
 tag_of OfStarted p = p.started

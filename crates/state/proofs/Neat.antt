@@ -1,5 +1,6 @@
 -- Which values hold a state of document 01, taken into named parts and put together again: by the conjuncts of `represents`, and of each place
 -- within the count. A rebuilt state holds one if its new parts do, cell by cell. Assumes nothing.
+use Rattle.std.specs.Prelude.{None}
 use mathlib.Core.Path.{◌≡◌, refl, sym, subst₂}
 use mathlib.Core.Logic.Iff
 use mathlib.Core.Logic.{◌↔◌}
@@ -12,7 +13,7 @@ use lib.ListN.{length, get_or, set}
 use lib.Seq.{get_or-set_other}
 use borrow.Author.Tests.{eqb-true, eqb-false}
 use Rattle.tags.specs.Tags.{◌≡ₜ◌}
-use Rattle.rules.specs.Model.{Tag, NoTag}
+use Rattle.rules.specs.Model.{Tag}
 use Rattle.rules.specs.Calls.{is_sound}
 use Rattle.rules.proofs.Lists.{and_left, and_right}
 use Rattle.rules.proofs.Invariants.{and_intro}
@@ -82,7 +83,7 @@ pub coordination-whole : (c : Coordination) → NeatCoordination c → T (neat_c
 coordination-whole c v = simp and_parts ((le→leb c.phase 6 v.phase, v.authorization), v.publication)
 
 pub no-publication : T (absent ≡ₜ absent && absent ≡ₜ absent)
-no-publication = let m : T (absent ≡ₜ absent) = neat-cell NoTag tt in and_intro (absent ≡ₜ absent) (absent ≡ₜ absent) m m
+no-publication = let m : T (absent ≡ₜ absent) = neat-cell None tt in and_intro (absent ≡ₜ absent) (absent ≡ₜ absent) m m
 
 pub neat-without-pending : (c : Coordination) (k : ℕ) → k ≤ 6 → T (neat_coordination c) → T (neat_coordination (without_pending k c))
 neat-without-pending c k h n =

@@ -1,5 +1,7 @@
 -- Each small part of a state there and back: from its cells to what they mean and to the cells again if they are neat, and from a meaning whose tags
 -- are proper to its cells and to the meaning again. By their cases. Assumes nothing.
+use Rattle.std.specs.Prelude.{None, Option, Some}
+use Rattle.records.specs.declared.FederatePublication.{FederatePublication}
 use mathlib.Core.Path.{◌≡◌, refl, sym, ap₂, ◌∙◌}
 use mathlib.Core.Bool.{Bool, true, false, not, cond, ◌&&◌, ◌||◌}
 use Prim.Native.Nat.{ℕ, zero, suc, ◌≤◌}
@@ -7,7 +9,7 @@ use native.Mathlib.Omega.{arith}
 use lib.Dec.{T, eqb, eqb→eq}
 use Rattle.tags.specs.Tags.{◌≡ₜ◌, is_proper, proper_if_present}
 use Rattle.records.specs.Numbers.{policy_number, phase_number}
-use Rattle.rules.specs.Model.{Tag, NoTag, At, OptionalNumber, NoNumber, Number, OptionalEnclave, NoEnclave, Enclave, OptionalPublication, NonePending, Pending, OptionalObservation, Unobserved, Observed, Probed, HasParked, Rechecked, OptionalAcquisition, NoneStored, Stored, OptionalInputs, NoInputs, Inputs, LifecyclePolicy, KeepAlive, TerminateWhenIdle, CoordinatedTermination, CoordinationPhase, Active, Probing, Parking, Rechecking, Parked, AwaitingIdleConfirmation, Stopped, State}
+use Rattle.rules.specs.Model.{Tag, OptionalObservation, Unobserved, Observed, Probed, HasParked, Rechecked, OptionalAcquisition, NoneStored, Stored, OptionalInputs, NoInputs, Inputs, LifecyclePolicy, KeepAlive, TerminateWhenIdle, CoordinatedTermination, CoordinationPhase, Active, Probing, Parking, Rechecking, Parked, AwaitingIdleConfirmation, Stopped, State}
 use Rattle.rules.specs.Calls.{proper_publication, proper_inputs, proper_acquisition}
 use Rattle.rules.proofs.Lists.{and_left, and_right}
 use Rattle.rules.proofs.Invariants.{and_intro}
@@ -75,9 +77,9 @@ pub value-number : (b : Bool) (n : ℕ) → T (is_zero_unless b n) → number_in
 value-number true n h = refl
 value-number false n h = sym (eqb→eq n 0 h)
 
-pub number-back : (x : OptionalNumber) → number_if (is_numbered x) (number_in x) ≡ x
-number-back NoNumber = refl
-number-back (Number n) = refl
+pub number-back : (x : Option ℕ) → number_if (is_numbered x) (number_in x) ≡ x
+number-back None = refl
+number-back (Some n) = refl
 
 pub flag-enclave : (b : Bool) (n : ℕ) → is_named (enclave_if b n) ≡ b
 flag-enclave true n = refl
@@ -87,9 +89,9 @@ pub value-enclave : (b : Bool) (n : ℕ) → T (is_zero_unless b n) → enclave_
 value-enclave true n h = refl
 value-enclave false n h = sym (eqb→eq n 0 h)
 
-pub enclave-back : (x : OptionalEnclave) → enclave_if (is_named x) (enclave_in x) ≡ x
-enclave-back NoEnclave = refl
-enclave-back (Enclave e) = refl
+pub enclave-back : (x : Option ℕ) → enclave_if (is_named x) (enclave_in x) ≡ x
+enclave-back None = refl
+enclave-back (Some e) = refl
 
 -- ---- the pair of inputs and the stored acquisition
 
@@ -153,7 +155,7 @@ with_pending c b revision next horizon = record {
 
 module _ (r : Held) (v : NeatCoordination r.coordination) where
   -- what is not of the pending publication
-  rest-held : (b : Bool) (a : ℕ) (x y : Tag) → with_pending (coordination_by NonePending (view r)) b a x y ≡ with_pending r.coordination b a x y
+  rest-held : (b : Bool) (a : ℕ) (x y : Tag) → with_pending (coordination_by None (view r)) b a x y ≡ with_pending r.coordination b a x y
   rest-held b a x y =
       let c = r.coordination in
       let phase = phase-number c.phase v.phase in
@@ -219,20 +221,20 @@ gate-held g v =
     λ k. record { input_horizon = a k; stored_revision = b k; stored_granted = c k; granted = d k }
 
 -- what the cells of a pending publication and the rest of a coordination mean
-pub record Means (c : Coordination) (p : OptionalPublication) (m : State) : Type 0 where
+pub record Means (c : Coordination) (p : Option FederatePublication) (m : State) : Type 0 where
   pub revision : c.revision ≡ m.revision
   pub phase : phase_of c.phase ≡ m.phase
   pub authorization : number_if c.authorized c.idle_authorization ≡ m.idle_authorization
   pub publication : publication_if c.pending c.pending_revision c.pending_next_event c.pending_grant_horizon ≡ p
 
-pub coordination-back : (p : OptionalPublication) (m : State) → T (proper_publication p) → Means (coordination_by p m) p m
-coordination-back NonePending m h = record {
+pub coordination-back : (p : Option FederatePublication) (m : State) → T (proper_publication p) → Means (coordination_by p m) p m
+coordination-back None m h = record {
   revision = refl;
   phase = number-phase m.phase;
   authorization = number-back m.idle_authorization;
   publication = refl;
 }
-coordination-back (Pending p) m h =
+coordination-back (Some p) m h =
     let n = proper_if_present p.next_event in
     let g = proper_if_present p.grant_horizon in
     let a = optional-cell p.next_event (and_left n g h) in
@@ -241,7 +243,7 @@ coordination-back (Pending p) m h =
       revision = refl;
       phase = number-phase m.phase;
       authorization = number-back m.idle_authorization;
-      publication = λ k. Pending (record { revision = p.revision; next_event = a k; grant_horizon = b k });
+      publication = λ k. Some (record { revision = p.revision; next_event = a k; grant_horizon = b k });
     }
 
 -- ---- the cells of a meaning whose tags are proper are neat
@@ -266,22 +268,22 @@ observation-below (Observed Probed) = omega arith
 observation-below (Observed HasParked) = omega arith
 observation-below (Observed Rechecked) = omega arith
 
-pub number-neat : (x : OptionalNumber) → T (is_zero_unless (is_numbered x) (number_in x))
-number-neat NoNumber = tt
-number-neat (Number n) = tt
+pub number-neat : (x : Option ℕ) → T (is_zero_unless (is_numbered x) (number_in x))
+number-neat None = tt
+number-neat (Some n) = tt
 
-pub enclave-neat : (x : OptionalEnclave) → T (is_zero_unless (is_named x) (enclave_in x))
-enclave-neat NoEnclave = tt
-enclave-neat (Enclave e) = tt
+pub enclave-neat : (x : Option ℕ) → T (is_zero_unless (is_named x) (enclave_in x))
+enclave-neat None = tt
+enclave-neat (Some e) = tt
 
 neat-absent : T (is_neat absent)
-neat-absent = neat-cell NoTag tt
+neat-absent = neat-cell None tt
 
-pub coordination-neat : (p : OptionalPublication) (m : State) → T (proper_publication p) → NeatCoordination (coordination_by p m)
-coordination-neat NonePending m h =
+pub coordination-neat : (p : Option FederatePublication) (m : State) → T (proper_publication p) → NeatCoordination (coordination_by p m)
+coordination-neat None m h =
     let e = neat-absent in
     record { phase = phase-below m.phase; authorization = number-neat m.idle_authorization; publication = and_intro (absent ≡ₜ absent) (absent ≡ₜ absent) e e }
-coordination-neat (Pending p) m h =
+coordination-neat (Some p) m h =
     let n = proper_if_present p.next_event in
     let g = proper_if_present p.grant_horizon in
     let a = neat-cell p.next_event (and_left n g h) in
@@ -294,11 +296,11 @@ coordination-neat (Pending p) m h =
 
 pub first-neat : (x : OptionalInputs) → T (proper_inputs x) → T (is_neat (first_of x))
 first-neat NoInputs h = neat-absent
-first-neat (Inputs f l) h = neat-cell (At f) (and_left (is_proper f) (is_proper l) h)
+first-neat (Inputs f l) h = neat-cell (Some f) (and_left (is_proper f) (is_proper l) h)
 
 pub last-neat : (x : OptionalInputs) → T (proper_inputs x) → T (is_neat (last_of x))
 last-neat NoInputs h = neat-absent
-last-neat (Inputs f l) h = neat-cell (At l) (and_right (is_proper f) (is_proper l) h)
+last-neat (Inputs f l) h = neat-cell (Some l) (and_right (is_proper f) (is_proper l) h)
 
 pub both-neat : (x : OptionalInputs) → T (proper_inputs x) → T (cond (is_absent (first_of x)) (is_absent (last_of x)) (not (is_absent (last_of x))))
 both-neat NoInputs h = tt
@@ -306,7 +308,7 @@ both-neat (Inputs f l) h = rw (proper-present f (and_left (is_proper f) (is_prop
 
 pub stored-neat : (x : OptionalAcquisition) → T (proper_acquisition x) → T (is_neat (stored_tag x))
 stored-neat NoneStored h = neat-absent
-stored-neat (Stored r t) h = neat-cell (At t) h
+stored-neat (Stored r t) h = neat-cell (Some t) h
 
 pub revision-neat : (x : OptionalAcquisition) → T (proper_acquisition x) → T (is_zero_unless (not (is_absent (stored_tag x))) (stored_revision x))
 revision-neat NoneStored h = tt

@@ -1,9 +1,9 @@
 -- The participants that the columns show: the rules' walks over them are walks over places, a change of cells is a change of participants, and the
 -- first place that holds an index is the only one, since indices ascend. By induction on the places. Assumes nothing.
+use Rattle.std.specs.Prelude.{None, Some, Option}
 use mathlib.Core.Path.{◌≡◌, refl, sym, ap, ◌∙◌, subst}
 use mathlib.Core.Bool.{Bool, true, false, not, cond, ◌&&◌, ◌||◌}
 use mathlib.Core.List.{List, [], ◌∷◌, map}
-use mathlib.Core.Option.{Option, none, some}
 use Prim.Native.Nat.{ℕ, zero, suc, ◌+◌, ◌≤◌, ◌<◌}
 use native.Mathlib.Nat.{not-suc-le-zero}
 use native.Mathlib.Omega.{arith}
@@ -15,7 +15,7 @@ use lib.Signed.{lt_z, le_z, le_z_yes, lt_z_yes, clash_ℤ}
 use borrow.Author.Tests.{ltb-true, ltb-false, eqb-true, eqb-false, eq-eqb, ne_eqb}
 use Rattle.tags.specs.Tags.{◌≤ₜ◌, ◌≡ₜ◌, lesser_present, greater_present, is_proper, proper_time, proper_if_present, never, forever, within_second, opposite_signs}
 use Rattle.tags.proofs.Order.{≤ₜ-anti, ≤ₜ-refl}
-use Rattle.rules.specs.Model.{Tag, OptionalTag, NoTag, At, Participant, CoordinationAction}
+use Rattle.rules.specs.Model.{Tag, Participant, CoordinationAction}
 use Rattle.rules.specs.Walk.{all, any, each, least_of, greatest_of, find, knows, at}
 use Rattle.rules.specs.Publication.{forget}
 use Rattle.rules.specs.Calls.{ascending}
@@ -42,12 +42,12 @@ unfolding any_of
 any-tab q f k zero = refl
 any-tab q f k (suc n) = ap (λ b. q (f k) || b) (any-tab q f (k + 1) n)
 
-pub least-tab : (g : Participant → OptionalTag) (f : ℕ → Participant) (k n : ℕ) → least_of g (tab f k n) ≡ least_from (λ j. g (f j)) k n
+pub least-tab : (g : Participant → Option Tag) (f : ℕ → Participant) (k n : ℕ) → least_of g (tab f k n) ≡ least_from (λ j. g (f j)) k n
 unfolding least_from
 least-tab g f k zero = refl
 least-tab g f k (suc n) = ap (lesser_present (g (f k))) (least-tab g f (k + 1) n)
 
-pub greatest-tab : (g : Participant → OptionalTag) (f : ℕ → Participant) (k n : ℕ) → greatest_of g (tab f k n) ≡ greatest_from (λ j. g (f j)) k n
+pub greatest-tab : (g : Participant → Option Tag) (f : ℕ → Participant) (k n : ℕ) → greatest_of g (tab f k n) ≡ greatest_from (λ j. g (f j)) k n
 unfolding greatest_from
 greatest-tab g f k zero = refl
 greatest-tab g f k (suc n) = ap (greater_present (g (f k))) (greatest-tab g f (k + 1) n)
@@ -66,10 +66,10 @@ module _ (s : Held) where
   pub any-rows : (q : Participant → Bool) → any q (rows_of s) ≡ any_of (λ j. q (row_at s j)) 0 s.count
   any-rows q = any-tab q (row_at s) 0 s.count
 
-  pub least-rows : (g : Participant → OptionalTag) → least_of g (rows_of s) ≡ least_from (λ j. g (row_at s j)) 0 s.count
+  pub least-rows : (g : Participant → Option Tag) → least_of g (rows_of s) ≡ least_from (λ j. g (row_at s j)) 0 s.count
   least-rows g = least-tab g (row_at s) 0 s.count
 
-  pub greatest-rows : (g : Participant → OptionalTag) → greatest_of g (rows_of s) ≡ greatest_from (λ j. g (row_at s j)) 0 s.count
+  pub greatest-rows : (g : Participant → Option Tag) → greatest_of g (rows_of s) ≡ greatest_from (λ j. g (row_at s j)) 0 s.count
   greatest-rows g = greatest-tab g (row_at s) 0 s.count
 
   pub each_rows : (q : Participant → Bool) (g : Participant → CoordinationAction)
@@ -103,12 +103,12 @@ unfolding any_of
 any_same p q k zero h = refl
 any_same p q k (suc n) h = rw (agree-first p q k n h, any_same p q (k + 1) n (agree-rest p q k n h)) refl
 
-pub least-same : (f g : ℕ → OptionalTag) (k n : ℕ) → Agree f g k n → least_from f k n ≡ least_from g k n
+pub least-same : (f g : ℕ → Option Tag) (k n : ℕ) → Agree f g k n → least_from f k n ≡ least_from g k n
 unfolding least_from
 least-same f g k zero h = refl
 least-same f g k (suc n) h = rw (agree-first f g k n h, least-same f g (k + 1) n (agree-rest f g k n h)) refl
 
-pub greatest-same : (f g : ℕ → OptionalTag) (k n : ℕ) → Agree f g k n → greatest_from f k n ≡ greatest_from g k n
+pub greatest-same : (f g : ℕ → Option Tag) (k n : ℕ) → Agree f g k n → greatest_from f k n ≡ greatest_from g k n
 unfolding greatest_from
 greatest-same f g k zero h = refl
 greatest-same f g k (suc n) h = rw (agree-first f g k n h, greatest-same f g (k + 1) n (agree-rest f g k n h)) refl
@@ -223,7 +223,7 @@ pub seated : (s : Held) (e i : ℕ) → T (ascending (rows_of s)) → i ≡ plac
 seated s e i a q l =
     seated-at s e i a l (eqb-true (get_or s.enclaves i 0) e (spot (λ j. eqb (get_or s.enclaves j 0) e) 0 s.count i q (omega arith)))
 
-nowhere : (f : ℕ → Participant) (e k n : ℕ) → k + n ≤ place_from (λ j. eqb (f j).index e) k n → find e (tab f k n) ≡ none
+nowhere : (f : ℕ → Participant) (e k n : ℕ) → k + n ≤ place_from (λ j. eqb (f j).index e) k n → find e (tab f k n) ≡ None
 unfolding place_from
 nowhere f e k zero q = refl
 nowhere f e k (suc n) q = go (nowhere f e (k + 1) n) (eqb (f k).index e) q
@@ -231,20 +231,20 @@ nowhere f e k (suc n) q = go (nowhere f e (k + 1) n) (eqb (f k).index e) q
     rest : ℕ
     rest = place_from (λ j. eqb (f j).index e) (k + 1) n
 
-    go : (k + 1 + n ≤ rest → find e (tab f (k + 1) n) ≡ none) → (b : Bool) → k + suc n ≤ cond b k rest → cond b (some (f k)) (find e (tab f (k + 1) n)) ≡ none
+    go : (k + 1 + n ≤ rest → find e (tab f (k + 1) n) ≡ None) → (b : Bool) → k + suc n ≤ cond b k rest → cond b (Some (f k)) (find e (tab f (k + 1) n)) ≡ None
     go ih true r = absurd (omega arith)
     go ih false r = ih (omega arith)
 
-pub unknown : (s : Held) (e i : ℕ) → i ≡ place_from (λ j. eqb (get_or s.enclaves j 0) e) 0 s.count → s.count ≤ i → find e (rows_of s) ≡ none
+pub unknown : (s : Held) (e i : ℕ) → i ≡ place_from (λ j. eqb (get_or s.enclaves j 0) e) 0 s.count → s.count ≤ i → find e (rows_of s) ≡ None
 unknown s e i q l = nowhere (row_at s) e 0 s.count (omega arith)
 
 found_from : (f : ℕ → Participant) (e i k n : ℕ) → k ≤ i → i < k + n → eqb (f i).index e ≡ true
-    → ((j : ℕ) → j < k + n → (j ≡ i → ⊥) → eqb (f j).index e ≡ false) → find e (tab f k n) ≡ some (f i)
+    → ((j : ℕ) → j < k + n → (j ≡ i → ⊥) → eqb (f j).index e ≡ false) → find e (tab f k n) ≡ Some (f i)
 found_from f e i k zero p q h o = absurd (omega arith)
 found_from f e i k (suc n) p q h o = go (λ l. found_from f e i (k + 1) n l (omega arith) h (λ j u v. o j (omega arith) v)) (ltb k i) refl
   where
-    go : (k + 1 ≤ i → find e (tab f (k + 1) n) ≡ some (f i)) → (b : Bool) → ltb k i ≡ b
-        → cond (eqb (f k).index e) (some (f k)) (find e (tab f (k + 1) n)) ≡ some (f i)
+    go : (k + 1 ≤ i → find e (tab f (k + 1) n) ≡ Some (f i)) → (b : Bool) → ltb k i ≡ b
+        → cond (eqb (f k).index e) (Some (f k)) (find e (tab f (k + 1) n)) ≡ Some (f i)
     go ih true y = let l = ltb-true k i y in rw (o k (omega arith) (λ z. omega arith)) (ih (omega arith))
     go ih false y =
         let l = ltb-false k i y in
@@ -252,19 +252,19 @@ found_from f e i k (suc n) p q h o = go (λ l. found_from f e i (k + 1) n l (ome
         let w : eqb (f k).index e ≡ true = subst (λ j. eqb (f j).index e ≡ true) m h in
         rw (w, m) refl
 
-pub found : (s : Held) (e i : ℕ) → Seated s e i → find e (rows_of s) ≡ some (row_at s i)
+pub found : (s : Held) (e i : ℕ) → Seated s e i → find e (rows_of s) ≡ Some (row_at s i)
 found s e i d = found_from (row_at s) e i 0 s.count (omega arith) (let l = d.within in omega arith) d.here (λ j u v. d.others j (omega arith) v)
 
 -- an index is known where it is found
 abbrev is_found : Option Participant → Bool
-is_found none = false
-is_found (some p) = true
+is_found None = false
+is_found (Some p) = true
 
 knows-found : (e : ℕ) (ps : List Participant) → knows e ps ≡ is_found (find e ps)
 knows-found e [] = refl
 knows-found e (p ∷ ps) = go (eqb p.index e) (knows-found e ps)
   where
-    go : (b : Bool) → knows e ps ≡ is_found (find e ps) → (b || knows e ps) ≡ is_found (cond b (some p) (find e ps))
+    go : (b : Bool) → knows e ps ≡ is_found (find e ps) → (b || knows e ps) ≡ is_found (cond b (Some p) (find e ps))
     go true h = refl
     go false h = h
 
@@ -296,18 +296,18 @@ same_tag a b h = ≤ₜ-anti a b (and_left (a ≤ₜ b) (b ≤ₜ a) h) (and_rig
 pub cell-optional : (t : Tag) → T (is_neat t) → cell_of (optional_of t) ≡ t
 cell-optional t h = go (is_absent t) h
   where
-    go : (b : Bool) → T (not b || t ≡ₜ absent) → cell_of (cond b NoTag (At t)) ≡ t
+    go : (b : Bool) → T (not b || t ≡ₜ absent) → cell_of (cond b None (Some t)) ≡ t
     go true k = sym (same_tag t absent k)
     go false k = refl
 
-pub optional-cell : (m : OptionalTag) → T (proper_if_present m) → optional_of (cell_of m) ≡ m
-optional-cell NoTag h = refl
-optional-cell (At t) h = rw (proper-present t h) refl
+pub optional-cell : (m : Option Tag) → T (proper_if_present m) → optional_of (cell_of m) ≡ m
+optional-cell None h = refl
+optional-cell (Some t) h = rw (proper-present t h) refl
 
 -- every optional tag's cell is neat, if a present one is proper
-pub neat-cell : (m : OptionalTag) → T (proper_if_present m) → T (is_neat (cell_of m))
-neat-cell NoTag h = and_intro (absent ≤ₜ absent) (absent ≤ₜ absent) (≤ₜ-refl absent) (≤ₜ-refl absent)
-neat-cell (At t) h = rw (proper-present t h) tt
+pub neat-cell : (m : Option Tag) → T (proper_if_present m) → T (is_neat (cell_of m))
+neat-cell None h = and_intro (absent ≤ₜ absent) (absent ≤ₜ absent) (≤ₜ-refl absent) (≤ₜ-refl absent)
+neat-cell (Some t) h = rw (proper-present t h) tt
 
 -- a cell is one of a proper tag or the mark
 pub cell-split : (t : Tag) → is_cell t ≡ (proper_if_present (optional_of t) && is_neat t)
@@ -316,7 +316,7 @@ cell-split t = go (is_absent t) (is_proper t) (t ≡ₜ absent) refl (λ e. prop
     mark : (t ≡ₜ absent) ≡ true → is_absent t ≡ true
     mark e = ap is_absent (same_tag t absent (subst T (sym e) tt))
 
-    go : (a p m : Bool) → is_proper t ≡ p → (p ≡ true → a ≡ false) → (m ≡ true → a ≡ true) → (p || m) ≡ (proper_if_present (cond a NoTag (At t)) && (not a || m))
+    go : (a p m : Bool) → is_proper t ≡ p → (p ≡ true → a ≡ false) → (m ≡ true → a ≡ true) → (p || m) ≡ (proper_if_present (cond a None (Some t)) && (not a || m))
     go true true m e f g = cc (f refl)
     go true false m e f g = refl
     go false true m e f g = rw e refl

@@ -1,9 +1,10 @@
 -- What the cells of the state mean: a tag, a number or an observation that may be absent, a phase and a policy by number. A cell that means nothing
 -- of document 01 is in no state that represents one (View, `represents`). Assumes nothing.
-use Rattle.std.specs.Prelude.{Bool, not, cond, ◌||◌, ℕ, ◌-◌, ◌^◌, eqb, List, ℤ, pos, negsuc, get_or}
+use Rattle.records.specs.declared.FederatePublication.{FederatePublication}
+use Rattle.std.specs.Prelude.{Bool, not, cond, ◌||◌, ℕ, ◌-◌, ◌^◌, eqb, List, ℤ, pos, negsuc, get_or, None, Option, Some}
 use Rattle.std.specs.Int.Signed.{lt_z}
 use Rattle.tags.specs.Tags.{◌≡ₜ◌, is_proper}
-use Rattle.rules.specs.Model.{Tag, OptionalTag, NoTag, At, OptionalNumber, NoNumber, Number, OptionalEnclave, NoEnclave, Enclave, LifecyclePolicy, KeepAlive, TerminateWhenIdle, CoordinatedTermination, CoordinationPhase, Active, Probing, Parking, Rechecking, Parked, AwaitingIdleConfirmation, Stopped, Probed, HasParked, Rechecked, OptionalObservation, Unobserved, Observed, OptionalAcquisition, NoneStored, Stored, OptionalInputs, NoInputs, Inputs, OptionalPublication, NonePending, Pending}
+use Rattle.rules.specs.Model.{Tag, LifecyclePolicy, KeepAlive, TerminateWhenIdle, CoordinatedTermination, CoordinationPhase, Active, Probing, Parking, Rechecking, Parked, AwaitingIdleConfirmation, Stopped, Probed, HasParked, Rechecked, OptionalObservation, Unobserved, Observed, OptionalAcquisition, NoneStored, Stored, OptionalInputs, NoInputs, Inputs}
 
 -- ---- tags
 
@@ -15,12 +16,12 @@ absent = record { seconds = negsuc (2 ^ 63 - 1); nanoseconds = negsuc (2 ^ 31 - 
 abbrev pub is_absent : Tag → Bool
 is_absent t = lt_z t.nanoseconds (negsuc 999_999_998)
 
-abbrev pub optional_of : Tag → OptionalTag
-optional_of t = cond (is_absent t) NoTag (At t)
+abbrev pub optional_of : Tag → Option Tag
+optional_of t = cond (is_absent t) None (Some t)
 
-abbrev pub cell_of : OptionalTag → Tag
-cell_of NoTag = absent
-cell_of (At t) = t
+abbrev pub cell_of : Option Tag → Tag
+cell_of None = absent
+cell_of (Some t) = t
 
 -- an absent tag is the mark
 abbrev pub is_neat : Tag → Bool
@@ -36,11 +37,11 @@ tag_in ss ns ms k = record { seconds = get_or ss k (pos 0); nanoseconds = get_or
 
 -- ---- numbers with a flag
 
-abbrev pub number_if : Bool → ℕ → OptionalNumber
-number_if b n = cond b (Number n) NoNumber
+abbrev pub number_if : Bool → ℕ → Option ℕ
+number_if b n = cond b (Some n) None
 
-abbrev pub enclave_if : Bool → ℕ → OptionalEnclave
-enclave_if b n = cond b (Enclave n) NoEnclave
+abbrev pub enclave_if : Bool → ℕ → Option ℕ
+enclave_if b n = cond b (Some n) None
 
 -- an absent number is 0
 abbrev pub is_zero_unless : Bool → ℕ → Bool
@@ -62,8 +63,8 @@ policy_of n = cond (eqb n 0) KeepAlive (cond (eqb n 1) TerminateWhenIdle Coordin
 
 -- ---- the pending publication, the pending pair of inputs, the stored acquisition
 
-abbrev pub publication_if : Bool → ℕ → Tag → Tag → OptionalPublication
-publication_if b r n h = cond b (Pending (record { revision = r; next_event = optional_of n; grant_horizon = optional_of h })) NonePending
+abbrev pub publication_if : Bool → ℕ → Tag → Tag → Option FederatePublication
+publication_if b r n h = cond b (Some (record { revision = r; next_event = optional_of n; grant_horizon = optional_of h })) None
 
 abbrev pub inputs_of : Tag → Tag → OptionalInputs
 inputs_of first last = cond (is_absent first) NoInputs (Inputs first last)

@@ -1,9 +1,10 @@
 -- The state as the code holds it and as the rules speak of it. `view` reads it, `put` writes it over another, and `represents` says which
 -- values hold a state of document 01: no hidden cell, so that each has one representation. The one file that names the fields of both. Assumes nothing.
-use Rattle.std.specs.Prelude.{Bool, true, false, not, cond, ◌&&◌, List, [], ◌∷◌, ◌++◌, map, ℕ, ◌+◌, eqb, leb, length, get_or, take, drop}
+use Rattle.records.specs.declared.FederatePublication.{FederatePublication}
+use Rattle.std.specs.Prelude.{Bool, true, false, not, cond, ◌&&◌, List, [], ◌∷◌, ◌++◌, map, ℕ, ◌+◌, eqb, leb, length, get_or, take, drop, None, Option, Some}
 use Rattle.tags.specs.Tags.{◌≡ₜ◌}
 use Rattle.records.specs.Numbers.{policy_number, phase_number, observation_number}
-use Rattle.rules.specs.Model.{Tag, OptionalTag, NoTag, OptionalNumber, NoNumber, Number, OptionalEnclave, NoEnclave, Enclave, OptionalPublication, NonePending, Pending, OptionalObservation, Unobserved, Observed, OptionalAcquisition, NoneStored, Stored, OptionalInputs, NoInputs, Inputs, Participant, State}
+use Rattle.rules.specs.Model.{Tag, OptionalObservation, Unobserved, Observed, OptionalAcquisition, NoneStored, Stored, OptionalInputs, NoInputs, Inputs, Participant, State}
 use Rattle.state.specs.declared.FederateCoordinationState.{FederateCoordinationState as Held}
 use Rattle.state.specs.declared.Coordination.{Coordination}
 use Rattle.state.specs.declared.Completion.{Completion}
@@ -91,33 +92,33 @@ over_tags part l ps =
     64
     (map (λ p. part (cell_of p.started)) ps)
 
-abbrev pub is_numbered : OptionalNumber → Bool
-is_numbered NoNumber = false
-is_numbered (Number n) = true
+abbrev pub is_numbered : Option ℕ → Bool
+is_numbered None = false
+is_numbered (Some n) = true
 
-abbrev pub number_in : OptionalNumber → ℕ
-number_in NoNumber = 0
-number_in (Number n) = n
+abbrev pub number_in : Option ℕ → ℕ
+number_in None = 0
+number_in (Some n) = n
 
 abbrev pub observation_cell : OptionalObservation → ℕ
 observation_cell Unobserved = 0
 observation_cell (Observed o) = observation_number o + 1
 
-abbrev pub is_named : OptionalEnclave → Bool
-is_named NoEnclave = false
-is_named (Enclave e) = true
+abbrev pub is_named : Option ℕ → Bool
+is_named None = false
+is_named (Some e) = true
 
-abbrev pub enclave_in : OptionalEnclave → ℕ
-enclave_in NoEnclave = 0
-enclave_in (Enclave e) = e
+abbrev pub enclave_in : Option ℕ → ℕ
+enclave_in None = 0
+enclave_in (Some e) = e
 
 -- one tag is granted to all: the first participant's
-abbrev pub granted_of : List Participant → OptionalTag
-granted_of [] = NoTag
+abbrev pub granted_of : List Participant → Option Tag
+granted_of [] = None
 granted_of (p ∷ ps) = p.granted
 
-abbrev pub coordination_by : OptionalPublication → State → Coordination
-coordination_by NonePending m = record {
+abbrev pub coordination_by : Option FederatePublication → State → Coordination
+coordination_by None m = record {
   revision = m.revision;
   phase = phase_number m.phase;
   authorized = is_numbered m.idle_authorization;
@@ -127,7 +128,7 @@ coordination_by NonePending m = record {
   pending_next_event = absent;
   pending_grant_horizon = absent;
 }
-coordination_by (Pending p) m = record {
+coordination_by (Some p) m = record {
   revision = m.revision;
   phase = phase_number m.phase;
   authorized = is_numbered m.idle_authorization;

@@ -1,7 +1,7 @@
 -- Questions to the n places from k on: what the rules' walks over the participants are on columns. `f` and `q` say what stands at a place. Assumes nothing.
-use Rattle.std.specs.Prelude.{Bool, true, false, cond, ◌&&◌, ◌||◌, List, [], ◌∷◌, ℕ, zero, suc, ◌+◌}
+use Rattle.tags.specs.declared.Tag.{Tag}
+use Rattle.std.specs.Prelude.{Bool, true, false, cond, ◌&&◌, ◌||◌, List, [], ◌∷◌, ℕ, zero, suc, ◌+◌, None, Option}
 use Rattle.tags.specs.Tags.{lesser_present, greater_present}
-use Rattle.rules.specs.Model.{OptionalTag, NoTag}
 
 -- f at each place
 abbrev pub tab : {A : Type 0} → (ℕ → A) → ℕ → ℕ → List A
@@ -21,12 +21,12 @@ unfoldable pub place_from : (ℕ → Bool) → ℕ → ℕ → ℕ
 place_from q k zero = k
 place_from q k (suc n) = cond (q k) k (place_from q (k + 1) n)
 
-unfoldable pub least_from : (ℕ → OptionalTag) → ℕ → ℕ → OptionalTag
-least_from f k zero = NoTag
+unfoldable pub least_from : (ℕ → Option Tag) → ℕ → ℕ → Option Tag
+least_from f k zero = None
 least_from f k (suc n) = lesser_present (f k) (least_from f (k + 1) n)
 
-unfoldable pub greatest_from : (ℕ → OptionalTag) → ℕ → ℕ → OptionalTag
-greatest_from f k zero = NoTag
+unfoldable pub greatest_from : (ℕ → Option Tag) → ℕ → ℕ → Option Tag
+greatest_from f k zero = None
 greatest_from f k (suc n) = greater_present (f k) (greatest_from f (k + 1) n)
 
 -- f of each place where q holds, in order

@@ -7,7 +7,7 @@ ghost use Rattle.std.specs.Prelude.{◌≡◌};
 ghost use Rattle.state.specs.Cells.{absent, is_absent, cell_of, optional_of};
 ghost use Rattle.state.specs.Parts.{without_pending};
 
-use tags::{OptionalTag, Tag};
+use tags::Tag;
 
 // The candidate of the participant at place i stands at i in the columns of tags, its completed tag at COMPLETED + i, its started tag at STARTED + i.
 pub const COMPLETED: usize = 32;
@@ -127,23 +127,23 @@ pub fn absent() -> Tag
 }
 
 // The cell of a tag that may be absent.
-pub fn cell_of(tag: OptionalTag) -> Tag
+pub fn cell_of(tag: Option<Tag>) -> Tag
     ensures { result ≡ cell_of tag }
 {
     match tag {
-        OptionalTag::NoTag => ABSENT,
-        OptionalTag::At(t) => t,
+        None => ABSENT,
+        Some(t) => t,
     }
 }
 
 // The tag that a cell holds, if any.
-pub fn optional_of(cell: Tag) -> OptionalTag
+pub fn optional_of(cell: Tag) -> Option<Tag>
     ensures { result ≡ optional_of cell }
 {
     if is_absent(cell) {
-        OptionalTag::NoTag
+        None
     } else {
-        OptionalTag::At(cell)
+        Some(cell)
     }
 }
 

@@ -1,5 +1,6 @@
 -- One turn of each loop of this crate, on plain values. Going up from 0 to n, at place i: the answer for all places is that for those from i on.
 -- Going down from n: what is in hand is the answer for the places from i on. Assumes nothing.
+use Rattle.std.specs.Prelude.{None, Option, Some}
 use mathlib.Core.Path.{◌≡◌, refl, sym, ap, ◌∙◌, subst}
 use mathlib.Core.Bool.{Bool, true, false, not, cond, ◌&&◌, ◌||◌, and-false, or-true}
 use mathlib.Core.List.{List, [], ◌∷◌}
@@ -14,7 +15,7 @@ use lib.ListN.{length, get_or, set}
 use lib.Seq.{set-get_or}
 use Rattle.tags.specs.Tags.{◌≤ₜ◌, ◌<ₜ◌, is_present, is_below, lesser_of, greater_of, lesser_present, greater_present, lesser_of_both}
 use Rattle.tags.proofs.Order.{≤ₜ-trans, ≤ₜ-total, greater-le-left, lesser-left, lesser-right, greater-comm, greater-assoc}
-use Rattle.rules.specs.Model.{Tag, OptionalTag, NoTag, At}
+use Rattle.rules.specs.Model.{Tag}
 use Rattle.state.specs.Cells.{absent, is_absent, optional_of, cell_of, tag_in}
 use Rattle.state.specs.Walk.{all_of, any_of, place_from, least_from, greatest_from}
 use Rattle.state.specs.Parts.{Apart, cleared}
@@ -132,25 +133,25 @@ clear-past l m i n h e = set-get_or m i 0 ∙ e ∙ ap (λ k. cleared k l) (with
 abbrev pub completed_in : List ℤ → List ℤ → List ℕ → ℕ → Tag
 completed_in ss ns ms j = tag_in ss ns ms (32 + j)
 
-pub data Means : Tag → OptionalTag → Type 0 where
-  missing : Means absent NoTag
-  present : {t : Tag} → is_absent t ≡ false → Means t (At t)
+pub data Means : Tag → Option Tag → Type 0 where
+  missing : Means absent None
+  present : {t : Tag} → is_absent t ≡ false → Means t (Some t)
 
-means-cell : {t : Tag} {m : OptionalTag} → Means t m → t ≡ cell_of m
+means-cell : {t : Tag} {m : Option Tag} → Means t m → t ≡ cell_of m
 means-cell missing = refl
 means-cell (present e) = refl
 
 -- a fold that picks one of any two present
 abbrev Walk : Type 0
-Walk = (ℕ → OptionalTag) → ℕ → ℕ → OptionalTag
+Walk = (ℕ → Option Tag) → ℕ → ℕ → Option Tag
 
-pub record Folds (pick : Tag → Tag → Tag) (join : OptionalTag → OptionalTag → OptionalTag) (from : Walk) : Type 0 where
-  pub first : (m : OptionalTag) → join NoTag m ≡ m
-  pub only : (a : Tag) → join (At a) NoTag ≡ At a
-  pub both : (a b : Tag) → join (At a) (At b) ≡ At (pick a b)
+pub record Folds (pick : Tag → Tag → Tag) (join : Option Tag → Option Tag → Option Tag) (from : Walk) : Type 0 where
+  pub first : (m : Option Tag) → join None m ≡ m
+  pub only : (a : Tag) → join (Some a) None ≡ Some a
+  pub both : (a b : Tag) → join (Some a) (Some b) ≡ Some (pick a b)
   pub kept : (a b : Tag) → is_absent a ≡ false → is_absent b ≡ false → is_absent (pick a b) ≡ false
-  pub none : (f : ℕ → OptionalTag) (k : ℕ) → from f k 0 ≡ NoTag
-  pub next : (f : ℕ → OptionalTag) (k n : ℕ) → from f k (suc n) ≡ join (f k) (from f (k + 1) n)
+  pub none : (f : ℕ → Option Tag) (k : ℕ) → from f k 0 ≡ None
+  pub next : (f : ℕ → Option Tag) (k n : ℕ) → from f k (suc n) ≡ join (f k) (from f (k + 1) n)
 
 either-kept : (x : Bool) (a b : Tag) → is_absent a ≡ false → is_absent b ≡ false → is_absent (cond x a b) ≡ false
 either-kept true a b p q = p
@@ -180,19 +181,19 @@ greatest =
       next = λ f k n. refl;
     }
 
-module _ {pick : Tag → Tag → Tag} {join : OptionalTag → OptionalTag → OptionalTag} {from : Walk} (w : Folds pick join from) where
-  means-join : (c acc : Tag) (m : OptionalTag) → Means acc m
+module _ {pick : Tag → Tag → Tag} {join : Option Tag → Option Tag → Option Tag} {from : Walk} (w : Folds pick join from) where
+  means-join : (c acc : Tag) (m : Option Tag) → Means acc m
       → Means (cond (is_absent c) acc (cond (is_absent acc) c (pick c acc))) (join (optional_of c) m)
   means-join c acc m h = go (is_absent c) refl h
     where
-      go : {acc : Tag} {m : OptionalTag} (x : Bool) → is_absent c ≡ x → Means acc m
-          → Means (cond x acc (cond (is_absent acc) c (pick c acc))) (join (cond x NoTag (At c)) m)
+      go : {acc : Tag} {m : Option Tag} (x : Bool) → is_absent c ≡ x → Means acc m
+          → Means (cond x acc (cond (is_absent acc) c (pick c acc))) (join (cond x None (Some c)) m)
       go {acc} {m} true e h = rw (w.first m) h
       go false e missing = rw (w.only c) (present e)
       go {acc} false e (present d) = rw (d, w.both c acc) (present (w.kept c acc e d))
 
   module _ (f : ℕ → Tag) (n : ℕ) where
-    abbrev over : ℕ → ℕ → OptionalTag
+    abbrev over : ℕ → ℕ → Option Tag
     over = from (λ j. optional_of (f j))
 
     pub fold_start : Means absent (over n (n - n))
@@ -277,70 +278,70 @@ module _ (b a : ℕ → Bool) (n : ℕ) where
 
 -- ---- up: the greatest tag under the horizon
 
-greater-swap : (a b c : OptionalTag) → greater_present (greater_present a b) c ≡ greater_present b (greater_present a c)
-greater-swap NoTag b c = refl
-greater-swap (At a) NoTag c = refl
-greater-swap (At a) (At b) NoTag = ap At (greater-comm a b)
-greater-swap (At a) (At b) (At c) = ap At (ap (λ t. greater_of t c) (greater-comm a b) ∙ greater-assoc b a c)
+greater-swap : (a b c : Option Tag) → greater_present (greater_present a b) c ≡ greater_present b (greater_present a c)
+greater-swap None b c = refl
+greater-swap (Some a) None c = refl
+greater-swap (Some a) (Some b) None = ap Some (greater-comm a b)
+greater-swap (Some a) (Some b) (Some c) = ap Some (ap (λ t. greater_of t c) (greater-comm a b) ∙ greater-assoc b a c)
 
 module _ (f : ℕ → Tag) (n : ℕ) (h : Tag) where
-  abbrev upper : ℕ → ℕ → OptionalTag
+  abbrev upper : ℕ → ℕ → Option Tag
   upper = greatest_from (λ j. optional_of (f j))
 
   pub front-missing : is_absent h ≡ true → absent ≡ cell_of (lesser_of_both (upper 0 n) (optional_of h))
   front-missing e = rw e (go (upper 0 n))
     where
-      go : (m : OptionalTag) → absent ≡ cell_of (lesser_of_both m NoTag)
-      go NoTag = refl
-      go (At a) = refl
+      go : (m : Option Tag) → absent ≡ cell_of (lesser_of_both m None)
+      go None = refl
+      go (Some a) = refl
 
   -- acc is the greatest of the places before i, none of which has reached h
   pub record Ahead (i : ℕ) (acc : Tag) : Type 0 where
-    pub most : OptionalTag
+    pub most : Option Tag
     pub means : Means acc most
     pub below : T (is_below most h)
-    pub rest : lesser_of_both (upper 0 n) (At h) ≡ lesser_of_both (greater_present most (upper i (n - i))) (At h)
+    pub rest : lesser_of_both (upper 0 n) (Some h) ≡ lesser_of_both (greater_present most (upper i (n - i))) (Some h)
 
   pub front-start : Ahead 0 absent
-  front-start = record { most = NoTag; means = missing; below = tt; rest = ap (λ m. lesser_of_both m (At h)) (start upper n) }
+  front-start = record { most = None; means = missing; below = tt; rest = ap (λ m. lesser_of_both m (Some h)) (start upper n) }
 
-  below_both : (m k : OptionalTag) → T (is_below m h) → T (is_below k h) → T (is_below (greater_present m k) h)
-  below_both NoTag k p q = q
-  below_both (At a) NoTag p q = p
-  below_both (At a) (At b) p q = go (a ≤ₜ b)
+  below_both : (m k : Option Tag) → T (is_below m h) → T (is_below k h) → T (is_below (greater_present m k) h)
+  below_both None k p q = q
+  below_both (Some a) None p q = p
+  below_both (Some a) (Some b) p q = go (a ≤ₜ b)
     where
       go : (x : Bool) → T (cond x b a <ₜ h)
       go true = q
       go false = p
 
-  below-is : (m : OptionalTag) → T (is_below m h) → lesser_of_both (greater_present m NoTag) (At h) ≡ m
-  below-is NoTag p = refl
-  below-is (At a) p = ap At (lesser-left a h (≤ₜ-total h a p))
+  below-is : (m : Option Tag) → T (is_below m h) → lesser_of_both (greater_present m None) (Some h) ≡ m
+  below-is None p = refl
+  below-is (Some a) p = ap Some (lesser-left a h (≤ₜ-total h a p))
 
-  reached-is : (a : Tag) (m : OptionalTag) → T (h ≤ₜ a) → lesser_of_both (greater_present (At a) m) (At h) ≡ At h
-  reached-is a NoTag k = ap At (lesser-right a h k)
-  reached-is a (At b) k = ap At (lesser-right (greater_of a b) h (≤ₜ-trans h a (greater_of a b) k (greater-le-left a b)))
+  reached-is : (a : Tag) (m : Option Tag) → T (h ≤ₜ a) → lesser_of_both (greater_present (Some a) m) (Some h) ≡ Some h
+  reached-is a None k = ap Some (lesser-right a h k)
+  reached-is a (Some b) k = ap Some (lesser-right (greater_of a b) h (≤ₜ-trans h a (greater_of a b) k (greater-le-left a b)))
 
-  settled : (c m k : OptionalTag) → is_below c h ≡ false → lesser_of_both (greater_present (greater_present c m) k) (At h) ≡ At h
-  settled NoTag m k e = absurd (subst T e tt)
-  settled (At a) m k e = go m
+  settled : (c m k : Option Tag) → is_below c h ≡ false → lesser_of_both (greater_present (greater_present c m) k) (Some h) ≡ Some h
+  settled None m k e = absurd (subst T e tt)
+  settled (Some a) m k e = go m
     where
       past : T (h ≤ₜ a)
       past = subst T (sym (not-false (h ≤ₜ a) e)) tt
 
-      go : (m : OptionalTag) → lesser_of_both (greater_present (greater_present (At a) m) k) (At h) ≡ At h
-      go NoTag = reached-is a k past
-      go (At b) = reached-is (greater_of a b) k (≤ₜ-trans h a (greater_of a b) past (greater-le-left a b))
+      go : (m : Option Tag) → lesser_of_both (greater_present (greater_present (Some a) m) k) (Some h) ≡ Some h
+      go None = reached-is a k past
+      go (Some b) = reached-is (greater_of a b) k (≤ₜ-trans h a (greater_of a b) past (greater-le-left a b))
 
   module _ (i : ℕ) (acc : Tag) (p : Ahead i acc) where
     pub front-done : n ≤ i → is_absent h ≡ false → acc ≡ cell_of (lesser_of_both (upper 0 n) (optional_of h))
     front-done k e = rw (e, p.rest, done upper n i k, greatest.none, below-is p.most p.below) (means-cell p.means)
 
     module _ (c : Tag) (x : Bool) (k : i < n) (e : c ≡ f i) (q : x ≡ is_below (optional_of c) h) where
-      turned : lesser_of_both (upper 0 n) (At h) ≡ lesser_of_both (greater_present (greater_present (optional_of c) p.most) (upper (i + 1) (n - (i + 1)))) (At h)
+      turned : lesser_of_both (upper 0 n) (Some h) ≡ lesser_of_both (greater_present (greater_present (optional_of c) p.most) (upper (i + 1) (n - (i + 1)))) (Some h)
       turned =
-          p.rest ∙ ap (λ m. lesser_of_both (greater_present p.most m) (At h)) (more upper n i k ∙ rw (greatest.next, ← e) refl)
-          ∙ ap (λ m. lesser_of_both m (At h)) (sym (greater-swap (optional_of c) p.most (upper (i + 1) (n - (i + 1)))))
+          p.rest ∙ ap (λ m. lesser_of_both (greater_present p.most m) (Some h)) (more upper n i k ∙ rw (greatest.next, ← e) refl)
+          ∙ ap (λ m. lesser_of_both m (Some h)) (sym (greater-swap (optional_of c) p.most (upper (i + 1) (n - (i + 1)))))
 
       pub front-reached : not x ≡ true → is_absent h ≡ false → h ≡ cell_of (lesser_of_both (upper 0 n) (optional_of h))
       front-reached t a = rw (a, turned, settled (optional_of c) p.most (upper (i + 1) (n - (i + 1))) (sym q ∙ not-true x t)) refl

@@ -2,9 +2,8 @@
 // The columns are lent, so that nothing is copied. Every function refuses nothing; a place or a count beyond the columns is the caller's to exclude.
 #![tactic(auto)]
 
-ghost use Rattle.std.specs.Prelude.{◌≡◌, false, cond, not, ◌||◌, ◌+◌, ◌≤◌, ◌<◌, eqb, get_or, set};
+ghost use Rattle.std.specs.Prelude.{◌≡◌, false, cond, not, ◌||◌, ◌+◌, ◌≤◌, ◌<◌, eqb, get_or, set, None};
 ghost use Rattle.tags.specs.Tags.{is_present, lesser_of, greater_of, lesser_of_both, is_below, is_at_or_below};
-ghost use Rattle.rules.specs.Model.{NoTag};
 ghost use Rattle.rules.specs.Walk.{is_number};
 ghost use Rattle.state.specs.Cells.{is_absent, optional_of, cell_of, tag_in, number_if};
 ghost use Rattle.state.specs.Walk.{all_of, any_of, place_from, least_from, greatest_from};
@@ -156,7 +155,7 @@ pub fn least_completed<'a>(
     count: usize,
 ) -> Tag
     requires { count ≤ 32 }
-    ensures { result ≡ cell_of (cond (all_of (λ j. is_present (optional_of (tag_in seconds.now nanoseconds.now microsteps.now (32 + j)))) 0 count) (least_from (λ j. optional_of (tag_in seconds.now nanoseconds.now microsteps.now (32 + j))) 0 count) NoTag) }
+    ensures { result ≡ cell_of (cond (all_of (λ j. is_present (optional_of (tag_in seconds.now nanoseconds.now microsteps.now (32 + j)))) 0 count) (least_from (λ j. optional_of (tag_in seconds.now nanoseconds.now microsteps.now (32 + j))) 0 count) None) }
 {
     let mut least = ABSENT;
     let mut i = count;

@@ -1,9 +1,7 @@
 -- Document 01, "Tags", with the tests on tags that may be absent ("Step rules", first paragraph). Assumes nothing.
-use Rattle.std.specs.Prelude.{◌-◌, ◌^◌, Bool, true, false, not, cond, ◌&&◌, ◌||◌, leb, ℤ, pos, negsuc}
+use Rattle.std.specs.Prelude.{◌-◌, ◌^◌, Bool, true, false, not, cond, ◌&&◌, ◌||◌, leb, ℤ, pos, negsuc, None, Option, Some}
 use Rattle.std.specs.Int.Signed.{lt_z, le_z}
 use Rattle.tags.specs.declared.Tag.{Tag}
-use Rattle.tags.specs.declared.OptionalTag.{OptionalTag}
-use Rattle.tags.specs.declared.OptionalTag.TheVariants.{NoTag, At}
 
 -- "Order: seconds, nanoseconds, microstep." By the first number, or where neither is below the other by the rest.
 abbrev pub in_order : ℤ → ℤ → Bool → Bool
@@ -52,55 +50,55 @@ proper_time s n = within_second n && not (opposite_signs s n)
 abbrev pub is_proper : Tag → Bool
 is_proper t = proper_time t.seconds t.nanoseconds
 
-abbrev pub proper_if_present : OptionalTag → Bool
-proper_if_present NoTag = true
-proper_if_present (At t) = is_proper t
+abbrev pub proper_if_present : Option Tag → Bool
+proper_if_present None = true
+proper_if_present (Some t) = is_proper t
 
 -- "An absent completed tag or frontier is below every tag"
-abbrev pub is_below : OptionalTag → Tag → Bool
-is_below NoTag f = true
-is_below (At a) f = a <ₜ f
+abbrev pub is_below : Option Tag → Tag → Bool
+is_below None f = true
+is_below (Some a) f = a <ₜ f
 
-abbrev pub has_reached : OptionalTag → Tag → Bool
+abbrev pub has_reached : Option Tag → Tag → Bool
 has_reached m f = not (is_below m f)
 
 -- "an at-or-below test with any other absent tag fails"
-abbrev pub is_at_or_below : OptionalTag → Tag → Bool
-is_at_or_below NoTag f = false
-is_at_or_below (At a) f = a ≤ₜ f
+abbrev pub is_at_or_below : Option Tag → Tag → Bool
+is_at_or_below None f = false
+is_at_or_below (Some a) f = a ≤ₜ f
 
-abbrev pub within : Tag → OptionalTag → Bool
-within t NoTag = false
-within t (At g) = t ≤ₜ g
+abbrev pub within : Tag → Option Tag → Bool
+within t None = false
+within t (Some g) = t ≤ₜ g
 
-abbrev pub same_optional : OptionalTag → OptionalTag → Bool
-same_optional NoTag NoTag = true
-same_optional NoTag (At b) = false
-same_optional (At a) NoTag = false
-same_optional (At a) (At b) = a ≡ₜ b
+abbrev pub same_optional : Option Tag → Option Tag → Bool
+same_optional None None = true
+same_optional None (Some b) = false
+same_optional (Some a) None = false
+same_optional (Some a) (Some b) = a ≡ₜ b
 
-abbrev pub is_present : OptionalTag → Bool
-is_present NoTag = false
-is_present (At a) = true
+abbrev pub is_present : Option Tag → Bool
+is_present None = false
+is_present (Some a) = true
 
 -- the lesser and the greater of those present
-abbrev pub lesser_present : OptionalTag → OptionalTag → OptionalTag
-lesser_present NoTag b = b
-lesser_present (At a) NoTag = At a
-lesser_present (At a) (At b) = At (lesser_of a b)
+abbrev pub lesser_present : Option Tag → Option Tag → Option Tag
+lesser_present None b = b
+lesser_present (Some a) None = Some a
+lesser_present (Some a) (Some b) = Some (lesser_of a b)
 
-abbrev pub greater_present : OptionalTag → OptionalTag → OptionalTag
-greater_present NoTag b = b
-greater_present (At a) NoTag = At a
-greater_present (At a) (At b) = At (greater_of a b)
+abbrev pub greater_present : Option Tag → Option Tag → Option Tag
+greater_present None b = b
+greater_present (Some a) None = Some a
+greater_present (Some a) (Some b) = Some (greater_of a b)
 
 -- the lesser of the two, absent where either is missing
-abbrev pub lesser_of_both : OptionalTag → OptionalTag → OptionalTag
-lesser_of_both NoTag b = NoTag
-lesser_of_both (At a) NoTag = NoTag
-lesser_of_both (At a) (At b) = At (lesser_of a b)
+abbrev pub lesser_of_both : Option Tag → Option Tag → Option Tag
+lesser_of_both None b = None
+lesser_of_both (Some a) None = None
+lesser_of_both (Some a) (Some b) = Some (lesser_of a b)
 
 -- the tag under a cap, where there is one
-abbrev pub capped_by : OptionalTag → Tag → Tag
-capped_by NoTag t = t
-capped_by (At c) t = lesser_of t c
+abbrev pub capped_by : Option Tag → Tag → Tag
+capped_by None t = t
+capped_by (Some c) t = lesser_of t c

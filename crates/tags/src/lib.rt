@@ -10,7 +10,7 @@ ghost use Rattle.tags.specs.Tags.{lesser_present, greater_present, lesser_of_bot
 
 // A point of logical time: an offset from the origin, and a step at it.
 #[repr(C)]
-#[derive(Clone, Copy)]
+#[derive(Clone, Copy, Debug, PartialEq, Eq, PartialOrd, Ord)]
 pub struct Tag {
     // Whole seconds from the origin of logical time.
     pub seconds: i64,
@@ -18,13 +18,6 @@ pub struct Tag {
     pub nanoseconds: i32,
     // The superdense step at that time.
     pub microstep: u64,
-}
-
-// A tag where the Rust has an `Option<Tag>`.
-#[derive(Clone, Copy)]
-pub enum OptionalTag {
-    NoTag,
-    At(Tag),
 }
 
 impl Tag {
@@ -165,116 +158,116 @@ pub fn is_proper(t: Tag) -> bool
 }
 
 // Whether the tag is absent or proper.
-pub fn proper_if_present(m: OptionalTag) -> bool
+pub fn proper_if_present(m: Option<Tag>) -> bool
     ensures { result ≡ proper_if_present m }
 {
     match m {
-        OptionalTag::NoTag => true,
-        OptionalTag::At(t) => is_proper(t),
+        None => true,
+        Some(t) => is_proper(t),
     }
 }
 
 // Whether there is a tag.
-pub fn is_present(m: OptionalTag) -> bool
+pub fn is_present(m: Option<Tag>) -> bool
     ensures { result ≡ is_present m }
 {
     match m {
-        OptionalTag::NoTag => false,
-        OptionalTag::At(_) => true,
+        None => false,
+        Some(_) => true,
     }
 }
 
 // Whether m is below f, as an absent completed tag or frontier is of every tag.
-pub fn is_below(m: OptionalTag, f: Tag) -> bool
+pub fn is_below(m: Option<Tag>, f: Tag) -> bool
     ensures { result ≡ is_below m f }
 {
     match m {
-        OptionalTag::NoTag => true,
-        OptionalTag::At(a) => !at_or_below(f, a),
+        None => true,
+        Some(a) => !at_or_below(f, a),
     }
 }
 
 // Whether m is present and at or below f.
-pub fn is_at_or_below(m: OptionalTag, f: Tag) -> bool
+pub fn is_at_or_below(m: Option<Tag>, f: Tag) -> bool
     ensures { result ≡ is_at_or_below m f }
 {
     match m {
-        OptionalTag::NoTag => false,
-        OptionalTag::At(a) => at_or_below(a, f),
+        None => false,
+        Some(a) => at_or_below(a, f),
     }
 }
 
 // Whether m is present and t at or below it.
-pub fn is_within(t: Tag, m: OptionalTag) -> bool
+pub fn is_within(t: Tag, m: Option<Tag>) -> bool
     ensures { result ≡ within t m }
 {
     match m {
-        OptionalTag::NoTag => false,
-        OptionalTag::At(g) => at_or_below(t, g),
+        None => false,
+        Some(g) => at_or_below(t, g),
     }
 }
 
 // Whether both are absent or both the same tag.
-pub fn same_optional(m: OptionalTag, n: OptionalTag) -> bool
+pub fn same_optional(m: Option<Tag>, n: Option<Tag>) -> bool
     ensures { result ≡ same_optional m n }
 {
     match m {
-        OptionalTag::NoTag => match n {
-            OptionalTag::NoTag => true,
-            OptionalTag::At(_) => false,
+        None => match n {
+            None => true,
+            Some(_) => false,
         },
-        OptionalTag::At(a) => match n {
-            OptionalTag::NoTag => false,
-            OptionalTag::At(b) => same_tag(a, b),
+        Some(a) => match n {
+            None => false,
+            Some(b) => same_tag(a, b),
         },
     }
 }
 
 // The lesser of those present.
-pub fn lesser_present(m: OptionalTag, n: OptionalTag) -> OptionalTag
+pub fn lesser_present(m: Option<Tag>, n: Option<Tag>) -> Option<Tag>
     ensures { result ≡ lesser_present m n }
 {
     match m {
-        OptionalTag::NoTag => n,
-        OptionalTag::At(a) => match n {
-            OptionalTag::NoTag => m,
-            OptionalTag::At(b) => OptionalTag::At(lesser(a, b)),
+        None => n,
+        Some(a) => match n {
+            None => m,
+            Some(b) => Some(lesser(a, b)),
         },
     }
 }
 
 // The greater of those present.
-pub fn greater_present(m: OptionalTag, n: OptionalTag) -> OptionalTag
+pub fn greater_present(m: Option<Tag>, n: Option<Tag>) -> Option<Tag>
     ensures { result ≡ greater_present m n }
 {
     match m {
-        OptionalTag::NoTag => n,
-        OptionalTag::At(a) => match n {
-            OptionalTag::NoTag => m,
-            OptionalTag::At(b) => OptionalTag::At(greater(a, b)),
+        None => n,
+        Some(a) => match n {
+            None => m,
+            Some(b) => Some(greater(a, b)),
         },
     }
 }
 
 // The lesser of the two, absent where either is.
-pub fn lesser_of_both(m: OptionalTag, n: OptionalTag) -> OptionalTag
+pub fn lesser_of_both(m: Option<Tag>, n: Option<Tag>) -> Option<Tag>
     ensures { result ≡ lesser_of_both m n }
 {
     match m {
-        OptionalTag::NoTag => m,
-        OptionalTag::At(a) => match n {
-            OptionalTag::NoTag => n,
-            OptionalTag::At(b) => OptionalTag::At(lesser(a, b)),
+        None => m,
+        Some(a) => match n {
+            None => n,
+            Some(b) => Some(lesser(a, b)),
         },
     }
 }
 
 // The lesser of t and the cap, or t where there is no cap.
-pub fn capped_by(m: OptionalTag, t: Tag) -> Tag
+pub fn capped_by(m: Option<Tag>, t: Tag) -> Tag
     ensures { result ≡ capped_by m t }
 {
     match m {
-        OptionalTag::NoTag => t,
-        OptionalTag::At(c) => lesser(t, c),
+        None => t,
+        Some(c) => lesser(t, c),
     }
 }

@@ -1,9 +1,9 @@
 -- Each arm of `take`: what its call promises is what taking the event promises. A call of the gate takes no room and has no actions, so it promises the
 -- same of any room, which it leaves as it was. Assumes nothing.
+use Rattle.std.specs.Prelude.{Option, Some}
 use mathlib.Core.Path.{◌≡◌, refl, sym, ap, ◌∙◌, subst, subst⁻¹}
 use mathlib.Core.Bool.{Bool, true, false, not, cond, ◌&&◌}
 use mathlib.Core.List.{List, []}
-use mathlib.Core.Option.{some}
 use Prim.Native.Nat.{ℕ}
 use native.Mathlib.Omega.{arith}
 use lib.Dec.{T, leb, eqb}
@@ -13,7 +13,7 @@ use borrow.Author.Tests.{le-leb, lt-leb, eqb-true}
 use Rattle.octets.specs.Runs.{put_at}
 use Rattle.octets.proofs.Runs.{put-nil}
 use Rattle.actions.specs.Record.{records_of}
-use Rattle.rules.specs.Model.{Tag, OptionalTag, State, Call, Given, horizon, begin, late, done, input}
+use Rattle.rules.specs.Model.{Tag, State, Call, Given, horizon, begin, late, done, input}
 use Rattle.rules.specs.Walk.{quiet}
 use Rattle.rules.specs.Gate.{may_begin, begun, begin_tag_of, input_publishing_of}
 use Rattle.rules.specs.Calls.{facts, own_step, take_step, is_sound, refusal}
@@ -37,12 +37,12 @@ use Rattle.dispatch.specs.Messages.{call_of}
 use Rattle.take.specs.Takes.{Takes, TakesCall}
 
 -- the event is this one, and this one tells the call
-pub takes-as : (x y : Event) (es : List ℕ) (c : Call) → x ≡ y → told_event y es ≡ some c → (s : Held) (before after : List ℕ) (r : Called) → TakesCall c s before after r → Takes (told_event x es) s before after r
+pub takes-as : (x y : Event) (es : List ℕ) (c : Call) → x ≡ y → told_event y es ≡ Some c → (s : Held) (before after : List ℕ) (r : Called) → TakesCall c s before after r → Takes (told_event x es) s before after r
 takes-as x y es c e t s before after r h = subst (λ o. Takes o s before after r) (sym (ap (λ z. told_event z es) e ∙ t)) h
 
 -- so does the event of a scheduler's message
-pub told-as : (x y : Event) (es : List ℕ) (m n : SchedulerMessage) → x ≡ y → m ≡ n → told_event y es ≡ some (call_of n) → told_event x es ≡ some (call_of m)
-told-as x y es m n e f t = ap (λ z. told_event z es) e ∙ t ∙ sym (ap (λ z. some (call_of z)) f)
+pub told-as : (x y : Event) (es : List ℕ) (m n : SchedulerMessage) → x ≡ y → m ≡ n → told_event y es ≡ Some (call_of n) → told_event x es ≡ Some (call_of m)
+told-as x y es m n e f t = ap (λ z. told_event z es) e ∙ t ∙ sym (ap (λ z. Some (call_of z)) f)
 
 -- ---- calls that take no room
 
@@ -73,7 +73,7 @@ without-room c s room r bare quiet-call p = record { promised = any-room c s bar
         either false = refl
 
 module _ (s : State) where
-  pub horizon-silent : (t : OptionalTag) → (take_step (horizon t) s).actions ≡ []
+  pub horizon-silent : (t : Option Tag) → (take_step (horizon t) s).actions ≡ []
   unfolding take_step own_step
   horizon-silent t = refl
 
@@ -141,4 +141,4 @@ at-most-length n es = by_order n (length es) (λ h. rw (le-leb n (length es) h) 
 pub takes-input : (x : Event) (n k : ℕ) (es part : List ℕ) → x ≡ Input n → k ≡ cond (leb n (length es)) n (length es) → part ≡ take k es → (s : Held) (room : List ℕ) (r : Called)
     → Promised (lent 0 (input part)) s r → Takes (told_event x es) s room room r
 takes-input x n k es part e f g s room r p =
-    takes-as x (Input n) es (input part) e (ap (λ l. some (input l)) (sym (g ∙ ap (λ m. take m es) f ∙ at-most-length n es))) s room room r (without-room (input part) s room r refl (input-silent (view s) part) p)
+    takes-as x (Input n) es (input part) e (ap (λ l. Some (input l)) (sym (g ∙ ap (λ m. take m es) f ∙ at-most-length n es))) s room room r (without-room (input part) s room r refl (input-silent (view s) part) p)

@@ -1,10 +1,9 @@
 -- What taking an event promises: all that its call promises, with every byte of the room. Assumes nothing.
-use Rattle.std.specs.Prelude.{◌≡◌, List, ℕ, length}
-use Rattle.std.proofs.Math.Option.{Option, none, some}
+use Rattle.std.specs.Prelude.{◌≡◌, List, ℕ, length, None, Option, Some}
 use Rattle.records.specs.declared.Refusal.TheVariants.{ScriptOutOfForm}
 use Rattle.octets.specs.Runs.{put_at}
 use Rattle.actions.specs.Record.{records_of}
-use Rattle.rules.specs.Model.{Silent, Call}
+use Rattle.rules.specs.Model.{Call}
 use Rattle.state.specs.declared.FederateCoordinationState.{FederateCoordinationState as Held}
 use Rattle.calls.specs.declared.Called.{Called}
 use Rattle.calls.specs.Called.{Promised, lent, actions_of, replied}
@@ -16,5 +15,5 @@ pub record TakesCall (c : Call) (s : Held) (before after : List ℕ) (r : Called
 
 -- what is no event changes nothing
 abbrev pub Takes : Option Call → Held → List ℕ → List ℕ → Called → Type 0
-Takes none s before after r = (r ≡ replied s ScriptOutOfForm Silent 0) × (after ≡ before)
-Takes (some c) s before after r = TakesCall c s before after r
+Takes None s before after r = (r ≡ replied s (Some ScriptOutOfForm) None 0) × (after ≡ before)
+Takes (Some c) s before after r = TakesCall c s before after r

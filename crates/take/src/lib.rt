@@ -7,7 +7,7 @@ ghost use Rattle.take.specs.Takes.{Takes};
 
 use calls::Called;
 use events::Event;
-use records::{Answer, FederateAcquisition, FederatePublication, Refusal, SchedulerMessage};
+use records::{FederateAcquisition, FederatePublication, Refusal, SchedulerMessage};
 use state::FederateCoordinationState;
 
 // The call that the event tells, with the enclaves that an `input` line names.
@@ -37,7 +37,7 @@ pub fn take(
         Event::Stopped(enclave) => SchedulerMessage::ParticipantStopped { enclave },
         Event::Failed(enclave) => SchedulerMessage::Failed { enclave },
         Event::NoEvent => {
-            return calls::with_reply(state, Refusal::ScriptOutOfForm, Answer::Silent, 0);
+            return calls::with_reply(state, Some(Refusal::ScriptOutOfForm), None, 0);
         }
         Event::Acquire(revision, granted) => {
             let acquisition = FederateAcquisition { revision, granted };

@@ -37,7 +37,7 @@ pub fn verdict_in(phase: u8, observation: Observation) -> Verdict
     requires { phase ≤ 6 }
     ensures { result ≡ rules.verdict_of (phase_of phase) observation }
 {
-    let column = records::observation_number(observation);
+    let column = u8::from(observation);
     let number = VERDICTS[(phase * 3 + column) as usize];
     if number == 0 {
         return Verdict::Counts;
@@ -52,5 +52,5 @@ pub fn verdict_in(phase: u8, observation: Observation) -> Verdict
 pub fn verdict(phase: CoordinationPhase, observation: Observation) -> Verdict
     ensures { result ≡ rules.verdict_of phase observation }
 {
-    verdict_in(records::phase_number(phase), observation)
+    verdict_in(u8::from(phase), observation)
 }

@@ -1,4 +1,5 @@
 -- Every declared state is of its widths: `StateFits`, from what it is to be a value of the declared type, and so is every declared tag. Assumes nothing.
+use Rattle.std.specs.Prelude.{None, Option, Some}
 use Prim.Native.Nat.{ℕ, zero, suc}
 use mathlib.Core.List.{List, [], ◌∷◌}
 use lib.ListN.{get_or}
@@ -13,8 +14,6 @@ use denote.Builtin.{i32, i64, u64}
 use denote.Struct.Declared.{row}
 use denote.Enum.Declared as enum
 use Rattle.tags.specs.declared.Tag.{Tag}
-use Rattle.tags.specs.declared.OptionalTag.{OptionalTag}
-use Rattle.tags.specs.declared.OptionalTag.TheVariants.{NoTag, At}
 use Rattle.tags.specs.contracts.Tag as tag
 use Rattle.tags.specs.contracts.OptionalTag as optional
 use Rattle.records.specs.declared.FederateAcquisition.{FederateAcquisition}
@@ -42,9 +41,9 @@ tag_fits t vs h =
     let f = h.1.1 in
     record { seconds = record { sfits = f.0.1 }; nanoseconds = record { sfits = f.1.0.1 }; microstep = record { fits = f.1.1.0.1 } }
 
-pub optional-fits : (m : OptionalTag) (vs : List Val) → Is (enum.row optional.the_type) m vs → FitsOptional m
-optional-fits NoTag vs h = tt
-optional-fits (At t) vs h = tag_fits t _ h.1.1.1.1.0
+pub optional-fits : (m : Option Tag) (vs : List Val) → Is (enum.row optional.the_type) m vs → FitsOptional m
+optional-fits None vs h = tt
+optional-fits (Some t) vs h = tag_fits t _ h.1.1.1.1.0
 
 -- the tags in the arguments of the calls that write
 

@@ -1,5 +1,6 @@
 -- The demands of specs/Demands.antt. A state that passes 27 has proper tags and indices up to 4,095, and its cells are of their widths; the rules only
 -- choose among these and the call's own; so every action is of its widths with proper tags, and its record reads back. Assumes nothing.
+use Rattle.std.specs.Prelude.{None, Option, Some}
 use Prim.Native.Nat.{ℕ, zero, suc, ◌+◌, ◌<◌, ◌≤◌}
 use mathlib.Core.Path.{◌≡◌, refl}
 use mathlib.Core.Bool.{Bool, true, false, ◌&&◌}
@@ -15,7 +16,7 @@ use Rattle.octets.specs.Runs.{put_at}
 use Rattle.actions.specs.Record.{fields_of, records_of}
 use Rattle.actions.specs.Demands.{FitsTag, FitsOptional, Writable}
 use Rattle.actions.proofs.RoundTrip.{read-write-each}
-use Rattle.rules.specs.Model.{Tag, OptionalTag, NoTag, At, OptionalAcquisition, Participant, CoordinationAction, Publish, AdvanceHorizon, Grant, Complete, CompletionProbe, Probe, Park, Recheck, Resume, Stop, Abort, Given}
+use Rattle.rules.specs.Model.{Tag, OptionalAcquisition, Participant, CoordinationAction, Publish, AdvanceHorizon, Grant, Complete, CompletionProbe, Probe, Park, Recheck, Resume, Stop, Abort, Given}
 use Rattle.rules.specs.Actions.{IfAt, IfStored, Made, Seat, Sources}
 use Rattle.rules.specs.Calls.{all_proper, facts, is_sound, is_taken, proper_acquisition, proper_participant, take_step}
 use Rattle.rules.specs.Demands.{Each}
@@ -40,31 +41,31 @@ Fit t = FitsTag t × T (is_proper t)
 abbrev Low : ℕ → Type 0
 Low e = e ≤ 4095
 
-both : (m : OptionalTag) → FitsOptional m → T (proper_if_present m) → IfAt Fit m
-both NoTag h k = tt
-both (At t) h k = (h, k)
+both : (m : Option Tag) → FitsOptional m → T (proper_if_present m) → IfAt Fit m
+both None h k = tt
+both (Some t) h k = (h, k)
 
-both-all : (ts : List OptionalTag) → Each FitsOptional ts → T (all_proper ts) → Each (IfAt Fit) ts
+both-all : (ts : List (Option Tag)) → Each FitsOptional ts → T (all_proper ts) → Each (IfAt Fit) ts
 both-all [] h k = tt
 both-all (m ∷ ts) h k =
     (both m h.0 (and_left (proper_if_present m) (all_proper ts) k), both-all ts h.1 (and_right (proper_if_present m) (all_proper ts) k))
 
 -- ---- an action made of such
 
-fits-of : (m : OptionalTag) → IfAt Fit m → FitsOptional m
-fits-of NoTag h = tt
-fits-of (At t) h = h.0
+fits-of : (m : Option Tag) → IfAt Fit m → FitsOptional m
+fits-of None h = tt
+fits-of (Some t) h = h.0
 
-proper-of : (m : OptionalTag) → IfAt Fit m → T (proper_if_present m)
-proper-of NoTag h = tt
-proper-of (At t) h = h.1
+proper-of : (m : Option Tag) → IfAt Fit m → T (proper_if_present m)
+proper-of None h = tt
+proper-of (Some t) h = h.1
 
 both_true : (a b : Bool) → T a → T b → (a && b) ≡ true
 both_true true true h k = refl
 both_true true false h k = absurd k
 both_true false b h k = absurd h
 
-proper-both : (m n : OptionalTag) → IfAt Fit m → IfAt Fit n → (proper_if_present m && proper_if_present n) ≡ true
+proper-both : (m n : Option Tag) → IfAt Fit m → IfAt Fit n → (proper_if_present m && proper_if_present n) ≡ true
 proper-both m n h k = both_true (proper_if_present m) (proper_if_present n) (proper-of m h) (proper-of n k)
 
 module _ (a : CoordinationAction) where

@@ -1,10 +1,11 @@
 -- `acquisition::handle_publication_sent` keeps the promise of the call `sent`: past 27 and 8 it refuses by 7 or is quiet where the publication is not due;
 -- else it is an acquisition of its revision and the horizon, which is refused by 27 and 8 as the call is. Assumes nothing.
+use Rattle.std.specs.Prelude.{None, Some}
 use mathlib.Core.Path.{refl, sym, ◌∙◌}
 use lib.ListN.{length}
 use borrow.Author.Rules.{rules}
 use Rattle.tags.specs.Tags.{proper_if_present}
-use Rattle.records.specs.declared.Refusal.TheVariants.{Taken, ImproperTag}
+use Rattle.records.specs.declared.Refusal.TheVariants.{ImproperTag}
 use Rattle.rules.specs.Model.{acquire, sent}
 use Rattle.state.specs.Parts.{Sized}
 use Rattle.calls.specs.Called.{lent}
@@ -24,7 +25,7 @@ returns-then-not-has_proper_tags c =
     let room = c.args.room.now in
     let what = sent p.revision p.next_event p.grant_horizon in
     let improper = listed (proper_if_present p.next_event) (proper_if_present p.grant_horizon) ∙ sym c.has_proper_tags.ensures ∙ c.if-not-has_proper_tags.true in
-    let o = ends-unless what s room ImproperTag refl refl c.unless_refused.ensures (λ st w q. ends-7 (lent (length room) what) s room refl st w improper q) in
+    let o = ends-unless what s room (Some ImproperTag) refl refl c.unless_refused.ensures (λ st w q. ends-7 (lent (length room) what) s room refl st w improper q) in
     record { promised = o.0; bytes = o.1 }
 
 -- ---- taken: not due, or an acquisition
@@ -38,7 +39,7 @@ returns-then-not-is_due c =
     let proper = sym c.has_proper_tags.ensures ∙ c.if-not-has_proper_tags.false in
     let nothing = sent-nothing s p.revision p.next_event p.grant_horizon c.is_due.result c.is_due.ensures c.if-not-is_due.true in
     let sized : Sized s = search rules in
-    let o = ends-unless what s room Taken refl refl c.unless_refused-then-not-is_due.ensures
+    let o = ends-unless what s room None refl refl c.unless_refused-then-not-is_due.ensures
     (λ st w q.
     let stands = standing_by s sized st in
     ends-still (lent (length room) what) s room refl stands (sent-taken s p.revision p.next_event p.grant_horizon (length room) stands w proper) nothing q)

@@ -1,10 +1,10 @@
 -- `acquisition::input_progress` keeps the promise of the call `progress`: it is the acquisition that is stored, which is refused by 27 and 8 as the
 -- call is; or quiet past these two where none is stored. Assumes nothing.
+use Rattle.std.specs.Prelude.{None}
 use mathlib.Core.Path.{◌≡◌, refl, sym, ◌∙◌}
 use mathlib.Core.Bool.{false}
 use lib.ListN.{length}
 use borrow.Author.Rules.{rules}
-use Rattle.records.specs.declared.Refusal.TheVariants.{Taken}
 use Rattle.rules.specs.Model.{acquire, progress}
 use Rattle.state.specs.Cells.{is_absent}
 use Rattle.state.specs.Parts.{Sized}
@@ -22,7 +22,7 @@ returns-then-is_absent c =
     let room = c.args.room.now in
     let none = progress-none s (sym c.is_absent.ensures ∙ c.if-is_absent.true) in
     let sized : Sized s = search rules in
-    let o = ends-unless progress s room Taken refl refl c.unless_refused.ensures
+    let o = ends-unless progress s room None refl refl c.unless_refused.ensures
     (λ p w q. let st = standing_by s sized p in ends-still (lent (length room) progress) s room refl st (progress-taken s (length room) st w) none q)
     in
     record { promised = o.0; bytes = o.1 }

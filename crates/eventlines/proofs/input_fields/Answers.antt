@@ -1,7 +1,6 @@
 -- `eventlines::input_fields` meets its contract: no field, a count that is none, or what the fields after it name. Assumes nothing.
 use mathlib.Core.Path.{ap, sym, ◌∙◌}
 use native.Mathlib.Omega.{arith}
-use Rattle.numerals.specs.Told.{told_number}
 use Rattle.numerals.proofs.Numbers.{number-le}
 use Rattle.events.specs.Events.{input_of, listed}
 use Rattle.events.specs.Told.{fields_from}
@@ -14,17 +13,17 @@ returns-then-line-at c = let a = c.args in
     c.unnamed.ensures ∙ ap named_of (sym (ap input_of (fields-end a.line.now a.at c.if-line-at.true)))
 
 pub listed_enclaves-requires : goal.listed_enclaves-requires
-listed_enclaves-requires c = number-le 32 _ c.in-Number.k (sym c.number-n.ensures ∙ ap told_number c.in-Number.is)
+listed_enclaves-requires c = number-le 32 _ c.in-Some.k (sym c.number-n.ensures ∙ c.in-Some.is)
 
-pub returns-in-NoNumber : goal.returns-in-NoNumber
-returns-in-NoNumber c = let e = sym c.number-n.ensures ∙ ap told_number c.in-NoNumber.is in
+pub returns-in-None : goal.returns-in-None
+returns-in-None c = let e = sym c.number-n.ensures ∙ c.in-None.is in
     let f = c.field_end-end in
     let a = c.args in
     let next = fields-next a.line.now a.at f.result (omega arith) f.ensures.0 in
-    c.unnamed-in-NoNumber.ensures ∙ ap named_of (sym (ap input_of next ∙ ap (λ o. listed o (fields_from f.result a.line.now)) e))
+    c.unnamed-in-None.ensures ∙ ap named_of (sym (ap input_of next ∙ ap (λ o. listed o (fields_from f.result a.line.now)) e))
 
-pub returns-in-Number : goal.returns-in-Number
-returns-in-Number c = let e = sym c.number-n.ensures ∙ ap told_number c.in-Number.is in
+pub returns-in-Some : goal.returns-in-Some
+returns-in-Some c = let e = sym c.number-n.ensures ∙ c.in-Some.is in
     let f = c.field_end-end in
     let a = c.args in
     let next = fields-next a.line.now a.at f.result (omega arith) f.ensures.0 in

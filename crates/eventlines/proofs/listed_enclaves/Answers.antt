@@ -6,7 +6,6 @@ use native.Mathlib.Numerals.{add-one}
 use native.Mathlib.Omega.{arith}
 use lib.ListN.{length, take, set, length-set}
 use lib.Seq.{take-suc-set, get_or-set_other}
-use Rattle.numerals.specs.Told.{told_number}
 use Rattle.numerals.proofs.Numbers.{number-le}
 use Rattle.events.specs.Told.{fields_from}
 use Rattle.eventlines.specs.Named.{named_of}
@@ -31,11 +30,11 @@ returns-in_default c = let w = c.number-w in
     c.unnamed-in_default.ensures
     ∙ ap named_of
     (turn-bad (take l.count l.enclaves) l.count a.n a.line.now l.at f.result (omega arith) f.ensures.0
-    (sym w.ensures ∙ ap told_number c.in_default.is)
+    (sym w.ensures ∙ c.in_default.is)
     ∙ l.invariant.2)
 
 pub overflow_cast-enclaves : goal.overflow_cast-enclaves
-overflow_cast-enclaves c = omega (arith, number-le _ _ c.in-Number.e (sym c.number-w.ensures ∙ ap told_number c.in-Number.is))
+overflow_cast-enclaves c = omega (arith, number-le _ _ c.in-Some.e (sym c.number-w.ensures ∙ c.in-Some.is))
 
 pub loop-at-preserved : goal.loop-at-preserved
 loop-at-preserved c = let w = c.number-w in
@@ -43,15 +42,15 @@ loop-at-preserved c = let w = c.number-w in
     let l = c.loop-at in
     let a = c.args in
     let here : l.count < length l.enclaves = omega arith in
-    let t : take (l.count + 1) (set l.enclaves l.count c.in-Number.e) ≡ take l.count l.enclaves ++ (c.in-Number.e ∷ []) =
-    rw (add-one l.count) (take-suc-set l.enclaves l.count c.in-Number.e here) in (
+    let t : take (l.count + 1) (set l.enclaves l.count c.in-Some.e) ≡ take l.count l.enclaves ++ (c.in-Some.e ∷ []) =
+    rw (add-one l.count) (take-suc-set l.enclaves l.count c.in-Some.e here) in (
       rw length-set l.invariant.0,
       omega arith,
       rw t
-          (turn_more (take l.count l.enclaves) l.count a.n a.line.now l.at f.result (omega arith) f.ensures.0 c.in-Number.e
-          (sym w.ensures ∙ ap told_number c.in-Number.is)
+          (turn_more (take l.count l.enclaves) l.count a.n a.line.now l.at f.result (omega arith) f.ensures.0 c.in-Some.e
+          (sym w.ensures ∙ c.in-Some.is)
           ∙ l.invariant.2),
-      λ k h. get_or-set_other l.enclaves l.count k c.in-Number.e 0 (λ q. omega arith) ∙ l.invariant.3 k (omega arith),
+      λ k h. get_or-set_other l.enclaves l.count k c.in-Some.e 0 (λ q. omega arith) ∙ l.invariant.3 k (omega arith),
     )
 
 pub returns-then-count-n : goal.returns-then-count-n

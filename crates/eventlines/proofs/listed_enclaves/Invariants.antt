@@ -1,6 +1,6 @@
+use Rattle.std.specs.Prelude.{Some}
 use Prim.Native.Nat.{ℕ, ◌-◌, ◌≤◌}
 use mathlib.Core.Path.{◌≡◌}
-use mathlib.Core.Option.{some}
 use lib.ListN.{length, take, get_or}
 use Rattle.events.specs.Events.{listed}
 use Rattle.events.specs.Told.{fields_from}
@@ -9,7 +9,7 @@ use Rattle.eventlines.proofs.listed_enclaves.Given as goal
 
 abbrev pub invariant-loop-at : goal.invariant-loop-at
 invariant-loop-at l = (length l.enclaves ≡ 32) × (l.count ≤ l.n)
-    × (listed_from (take l.count l.enclaves) l.count l.n (fields_from l.at l.line) ≡ listed (some l.n) (fields_from l.from l.line))
+    × (listed_from (take l.count l.enclaves) l.count l.n (fields_from l.at l.line) ≡ listed (Some l.n) (fields_from l.from l.line))
     × ((k : ℕ) → l.count ≤ k → get_or l.enclaves k 0 ≡ 0)
 
 abbrev pub decreases-loop-at : goal.decreases-loop-at

@@ -4,7 +4,7 @@ use Rattle.numerals.proofs.Numbers.{number-le}
 use Rattle.events.proofs.with_three_fields.Goals as goal
 
 pub overflow_cast-result : goal.overflow_cast-result
-overflow_cast-result c = grind (arith, number-le c.if-kind-eq8.most c.args.a.now c.in-Number.n (sym c.in-Number.ensures))
+overflow_cast-result c = grind (arith, number-le c.if-kind-eq8.most c.args.a.now c.in-Some.n (sym c.in-Some.ensures))
 
 pub overflow_cast-result-in-9 : goal.overflow_cast-result-in-9
-overflow_cast-result-in-9 c = grind (arith, number-le c.if-kind-eq8.most c.args.a.now c.in-Number.n (sym c.in-Number.ensures))
+overflow_cast-result-in-9 c = grind (arith, number-le c.if-kind-eq8.most c.args.a.now c.in-Some.n (sym c.in-Some.ensures))

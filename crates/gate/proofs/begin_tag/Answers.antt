@@ -1,12 +1,13 @@
 -- `gate::begin_tag` keeps the promise of the call `begin`: it refuses 27, then 7, and else answers the rule's tests, and stores where they hold.
 -- Assumes nothing.
+use Rattle.std.specs.Prelude.{Some, None}
 use mathlib.Core.Path.{◌≡◌, refl, sym, ap, ap₂, ◌∙◌}
 use mathlib.Core.Bool.{true, false}
 use mathlib.Core.List.{[]}
 use native.Mathlib.Omega.{arith}
 use borrow.Author.Rules.{rules}
-use Rattle.records.specs.declared.Refusal.TheVariants.{Taken, ImproperTag}
-use Rattle.rules.specs.Model.{At, No, Yes, begin}
+use Rattle.records.specs.declared.Refusal.TheVariants.{ImproperTag}
+use Rattle.rules.specs.Model.{begin}
 use Rattle.rules.specs.Walk.{quiet}
 use Rattle.rules.specs.Gate.{may_begin}
 use Rattle.rules.specs.Calls.{says}
@@ -66,15 +67,15 @@ returns c =
     let stands : c.is_sound.result ≡ true → Standing s = standing s sized c.is_sound.ensures in
     elim c.if-not-is_sound.branch [
       | then-not-is_sound w ↦
-          promised-27 g s No c.is_sound.ensures w.if-not-is_sound.true no (r ∙ (λ i. replied (w.state-is i) (w.refusal-is i) (w.answer-is i) 0))
+          promised-27 g s (Some false) c.is_sound.ensures w.if-not-is_sound.true no (r ∙ (λ i. replied (w.state-is i) (w.refusal-is i) (w.answer-is i) 0))
       | else-not-is_sound+then-not-is_proper w ↦
-          promised-refused g s ImproperTag No
-          (asks-7 _ (At a.tag) asks s (stands w.if-not-is_sound.false).passing (sym w.is_proper.ensures ∙ w.if-not-is_proper.true))
+          promised-refused g s (Some ImproperTag) (Some false)
+          (asks-7 _ (Some a.tag) asks s (stands w.if-not-is_sound.false).passing (sym w.is_proper.ensures ∙ w.if-not-is_proper.true))
           (omega arith) no (r ∙ (λ i. replied (w.state-is i) (w.refusal-is i) (w.answer-is i) 0))
       | else-not-is_sound+else-not-is_proper+then-is_absent w ↦
           let st = stands w.if-not-is_sound.false in
           let h = sym w.is_absent.ensures ∙ w.if-is_absent.true in
-          promised-still g s st (asks-0 _ (At a.tag) asks s st.passing (sym w.is_proper.ensures ∙ w.if-not-is_proper.false)) Yes
+          promised-still g s st (asks-0 _ (Some a.tag) asks s st.passing (sym w.is_proper.ensures ∙ w.if-not-is_proper.false)) (Some true)
           (ap says (sym (may_free s a.enclave a.tag h))) (step-free s a.enclave a.tag h)
           (r ∙ (λ i. replied (w.state-is i) (w.refusal-is i) (w.answer-is i) 0))
       | else-not-is_sound+else-not-is_proper+else-is_absent+then-place-count+then-may_begin w ↦
@@ -85,11 +86,11 @@ returns c =
           let i = w.find-place.result in
           let d = seated s a.enclave i st.ascends w.find-place.ensures w.if-place-count.true in
           let y = may-known s a.enclave a.tag h i st.good d ∙ sym w.may_begin.ensures ∙ w.if-may_begin.true in
-          promised-taken g s st (asks-0 _ (At a.tag) asks s st.passing q) Yes (ap says (sym y))
+          promised-taken g s st (asks-0 _ (Some a.tag) asks s st.passing q) (Some true) (ap says (sym y))
           (started_at s i a.tag) [] (started-beyond s a.enclave i a.tag st.good n d q) (started-neat s a.enclave i a.tag st.good n d q)
           (step-begun s a.enclave a.tag h y ∙ ap quiet (started-view s a.enclave i a.tag st.good n d q)) refl
           (r ∙ (λ k. replied (w.state-is k) (w.refusal-is k) (w.answer-is k) 0)
-          ∙ ap₂ (λ x y. replied (started_at s i (record { seconds = x; nanoseconds = y; microstep = a.tag.microstep })) Taken Yes 0) (search rules) (search rules))
+          ∙ ap₂ (λ x y. replied (started_at s i (record { seconds = x; nanoseconds = y; microstep = a.tag.microstep })) None (Some true) 0) (search rules) (search rules))
       | else-not-is_sound+else-not-is_proper+else-is_absent+else-place-count w ↦
           let st = stands w.if-not-is_sound.false in
           let h = sym w.is_absent.ensures ∙ w.if-is_absent.false in
@@ -102,6 +103,6 @@ returns c =
                 may-unknown s a.enclave a.tag h (unknown-knows s a.enclave w.find-place.result w.find-place.ensures v.if-place-count.false)
           ]
           in
-          promised-still g s st (asks-0 _ (At a.tag) asks s st.passing (sym w.is_proper.ensures ∙ w.if-not-is_proper.false)) No
+          promised-still g s st (asks-0 _ (Some a.tag) asks s st.passing (sym w.is_proper.ensures ∙ w.if-not-is_proper.false)) (Some false)
           (ap says (sym y)) (step-denied s a.enclave a.tag y) (r ∙ (λ i. replied (w.state-is i) (w.refusal-is i) (w.answer-is i) 0))
     ]

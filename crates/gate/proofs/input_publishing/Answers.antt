@@ -1,8 +1,8 @@
 -- `gate::input_publishing` keeps the promise of the call `input`: it refuses 27, then 3, and else stores what the rule says. Assumes nothing.
+use Rattle.std.specs.Prelude.{None}
 use mathlib.Core.Path.{◌≡◌, refl, ◌∙◌}
 use mathlib.Core.Bool.{true}
 use borrow.Author.Rules.{rules}
-use Rattle.rules.specs.Model.{Silent}
 use Rattle.state.specs.Parts.{Sized}
 use Rattle.calls.specs.Called.{replied}
 use Rattle.calls.proofs.Standing.{Standing, standing, promised-27}
@@ -27,8 +27,8 @@ returns c =
     elim c.if-is_sound.branch [
       | then-is_sound+then-are_known w ↦
           ends-noticed _ _ (stands w.if-is_sound.true) w.are_known.ensures _ _ _ _ _ _ w.if-are_known.true w.still_published-state.ensures w.clear.ensures
-          w.revised-state.ensures w.unprobed-state.ensures refl (r ∙ (λ i. replied (w.state-is i) (w.refusal-is i) Silent 0))
+          w.revised-state.ensures w.unprobed-state.ensures refl (r ∙ (λ i. replied (w.state-is i) (w.refusal-is i) None 0))
       | then-is_sound+else-are_known w ↦
-          ends-unknown _ _ (stands w.if-is_sound.true) w.are_known.ensures _ w.if-are_known.false (r ∙ (λ i. replied (w.state-is i) (w.refusal-is i) Silent 0))
-      | else-is_sound w ↦ promised-27 _ _ Silent c.is_sound.ensures w.if-is_sound.false refl (r ∙ (λ i. replied (w.state-is i) (w.refusal-is i) Silent 0))
+          ends-unknown _ _ (stands w.if-is_sound.true) w.are_known.ensures _ w.if-are_known.false (r ∙ (λ i. replied (w.state-is i) (w.refusal-is i) None 0))
+      | else-is_sound w ↦ promised-27 _ _ None c.is_sound.ensures w.if-is_sound.false refl (r ∙ (λ i. replied (w.state-is i) (w.refusal-is i) None 0))
     ]

@@ -1,11 +1,10 @@
 -- `listing::put_event` meets its contract: the number, and three fields right after it. Assumes nothing.
+use Rattle.std.specs.Prelude.{None, Bool, Option, Some, false, true}
 use mathlib.Core.Path.{◌≡◌, sym, ap, ◌∙◌}
 use mathlib.Core.List.{List, [], ◌∷◌}
 use Prim.Native.Nat.{ℕ, ◌≤◌}
 use native.Mathlib.Omega.{arith}
-use Rattle.tags.specs.declared.OptionalTag.TheVariants.{NoTag}
 use Rattle.records.specs.Numbers.{refusal_number}
-use Rattle.rules.specs.Model.{Answer, Silent, No, Yes}
 use Rattle.printing.specs.Printing.{decimal}
 use Rattle.printing.specs.Runs.{Puts}
 use Rattle.printing.proofs.Runs.{at_most}
@@ -18,31 +17,31 @@ use Rattle.fields.proofs.Lines.{then-line}
 use Rattle.listing.proofs.put_event.Goals as goal
 use Rattle.listing.proofs.put_event.Goals.{in-Silent, in-No, in-Yes}
 
-abbrev said_of : Answer → Field
-said_of Silent = Time NoTag
-said_of No = Number 0
-said_of Yes = Number 1
+abbrev said_of : Option Bool → Field
+said_of None = Time None
+said_of (Some false) = Number 0
+said_of (Some true) = Number 1
 
-said-line : {l m : List ℕ} {at j : ℕ} (a : Answer) (n r k : ℕ)
+said-line : {l m : List ℕ} {at j : ℕ} (a : Option Bool) (n r k : ℕ)
     → Puts l at (line (decimal n ∷ words (Number r ∷ said_of a ∷ Number k ∷ []))) 160 j m → Puts l at (event_line n r a k) 160 j m
 unfolding event_line decimal
-said-line Silent n r k p = p
-said-line No n r k p = p
-said-line Yes n r k p = p
+said-line None n r k p = p
+said-line (Some false) n r k p = p
+said-line (Some true) n r k p = p
 
-said-room : (a : Answer) → room_of (said_of a) ≤ 64
-said-room Silent = omega arith
-said-room No = omega arith
-said-room Yes = omega arith
+said-room : (a : Option Bool) → room_of (said_of a) ≤ 64
+said-room None = omega arith
+said-room (Some false) = omega arith
+said-room (Some true) = omega arith
 
 pub returns : goal.returns
 returns c =
     let s = c.args in
     let said-is : c.match-answer.said ≡ said_of s.answer =
     elim c.match-answer.branch [
-      | in-Silent w ↦ w.said-is ∙ ap said_of (sym w.in-Silent.is)
-      | in-No w ↦ w.said-is ∙ ap said_of (sym w.in-No.is)
-      | in-Yes w ↦ w.said-is ∙ ap said_of (sym w.in-Yes.is)
+      | in-None w ↦ w.said-is ∙ ap said_of (sym w.in-None.is)
+      | in-(Some false) w ↦ w.said-is ∙ ap said_of (sym w.in-(Some false).is)
+      | in-(Some true) w ↦ w.said-is ∙ ap said_of (sym w.in-(Some true).is)
     ] in
     let room : room_of c.match-answer.said ≤ 64 = rw said-is (said-room s.answer) in
     let three = words (Number (refusal_number s.refusal) ∷ c.match-answer.said ∷ Number s.actions ∷ []) in

@@ -1,8 +1,8 @@
 -- `take::take` keeps what the call of its event promises: the calls of the gate, which take no room, and the scheduler's messages, whose arms meet before
 -- their one call. Assumes nothing.
+use Rattle.std.specs.Prelude.{Some}
 use mathlib.Core.Path.{◌≡◌, refl}
 use mathlib.Core.Bool.{cond}
-use mathlib.Core.Option.{some}
 use lib.Dec.{leb}
 use lib.ListN.{length}
 use borrow.Author.Rules.{rules}
@@ -51,7 +51,7 @@ pub returns : goal.returns
 returns c =
     let a = c.args in
     let es = a.listed.now in
-    let told : told_event a.event es ≡ some (call_of c.match-event.message) =
+    let told : told_event a.event es ≡ Some (call_of c.match-event.message) =
     elim c.match-event.branch [
       | in-Active w ↦ told-as _ _ es _ _ w.in-Active.is w.message-is refl
       | in-Publish w ↦ told-as _ _ es _ _ w.in-Publish.is w.message-is refl
