@@ -1,11 +1,12 @@
 // The state as the code holds it: plain numbers throughout, so that a host can keep it as it is. The participants stand at the first `count`
 // places of the columns, by ascending index. An absent tag is `ABSENT`, which no proper tag is; an absent number is 0 with its flag false.
-// Every function is total and refuses nothing.
+// Every function refuses nothing; a place beyond the columns is the caller's to exclude.
 #![tactic(auto)]
 
-ghost use Rattle.std.specs.Prelude.{◌≡◌};
+ghost use Rattle.std.specs.Prelude.{◌≡◌, ◌<◌};
 ghost use Rattle.state.specs.Cells.{absent, is_absent, cell_of, optional_of};
 ghost use Rattle.state.specs.Parts.{without_pending};
+ghost use Rattle.state.specs.View.{tag_at};
 
 use tags::Tag;
 
@@ -71,6 +72,20 @@ pub struct FederateCoordinationState {
     pub failed: bool,
     pub lifecycle: u8,
     pub first_failure: u32,
+}
+
+impl FederateCoordinationState {
+    // The cell at a place of the columns of tags.
+    pub fn tag_at(&self, at: usize) -> Tag
+        requires { at < 96 }
+        ensures { result ≡ tag_at self.now at }
+    {
+        Tag {
+            seconds: self.seconds[at],
+            nanoseconds: self.nanoseconds[at],
+            microstep: self.microsteps[at],
+        }
+    }
 }
 
 // The cells of one participant that a scheduler message can change.
@@ -140,11 +155,7 @@ pub fn cell_of(tag: Option<Tag>) -> Tag
 pub fn optional_of(cell: Tag) -> Option<Tag>
     ensures { result ≡ optional_of cell }
 {
-    if is_absent(cell) {
-        None
-    } else {
-        Some(cell)
-    }
+    if is_absent(cell) { None } else { Some(cell) }
 }
 
 pub fn is_absent(cell: Tag) -> bool
