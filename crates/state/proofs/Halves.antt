@@ -1,5 +1,6 @@
 -- First halves of own rules: the tests on the phase as the code makes them, and the participants after a change of one enclave's parts.
 -- By the laws of the columns' participants and of the bounds. Assumes nothing.
+use Rattle.std.specs.Prelude.{None, Option}
 use mathlib.Core.Path.{◌≡◌, refl, sym, ap, ◌∙◌, subst}
 use mathlib.Core.Bool.{Bool, true, false}
 use mathlib.Core.List.{List, map}
@@ -13,6 +14,7 @@ use Rattle.rules.specs.Walk.{at, is, is_stopped, quiet}
 use Rattle.rules.specs.Publication.{forget}
 use Rattle.state.specs.declared.FederateCoordinationState.{FederateCoordinationState as Held}
 use Rattle.state.specs.declared.Parts.{Parts}
+use Rattle.state.specs.declared.Notice.{Notice}
 use Rattle.state.specs.declared.Next.TheVariants.{Says}
 use Rattle.state.specs.declared.Decided.{Decided}
 use Rattle.state.specs.View.{row_at, rows_of, view, represents}
@@ -62,15 +64,15 @@ view-kept s e i g d = ap (λ (ps : List Participant). with_participants ps (view
 
 -- ---- a decision that depends on the parts alone
 
--- nothing but the action of kind k
-abbrev pub saying : ℕ → Parts → Decided
+-- nothing but this action, if any
+abbrev pub saying : Option Notice → Parts → Decided
 saying k p = record { parts = p; forgets = false; next = Says k }
 
 -- in s, with enclave e at place i, the rule is d and what d goes on with
 abbrev pub Goes : (State → Step) → ℕ → (Parts → Decided) → Held → ℕ → Type 0
 Goes rule e d s i = rule (view s) ≡ conclusion e (d (parts_of s i)).next (view (halfway s i (d (parts_of s i))))
 
-pub goes-nothing : (rule : State → Step) (e : ℕ) (s : Held) (i : ℕ) → Good s → Seated s e i → rule (view s) ≡ quiet (view s) → Goes rule e (saying 0) s i
+pub goes-nothing : (rule : State → Step) (e : ℕ) (s : Held) (i : ℕ) → Good s → Seated s e i → rule (view s) ≡ quiet (view s) → Goes rule e (saying None) s i
 unfolding conclusion
 goes-nothing rule e s i g d h = h ∙ ap quiet (sym (view-kept s e i g d))
 

@@ -6,3 +6,4 @@ pub mod Round
 pub mod Put
 pub mod Seats
 pub mod Halves
+pub mod Beside

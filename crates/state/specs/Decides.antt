@@ -1,6 +1,6 @@
 -- How a scheduler message's own rule is taken in two halves: first the parts of its enclave and the small parts are stored, then what depends on
 -- the whole table is concluded. What the functions that decide the first half promise. Assumes nothing.
-use Rattle.std.specs.Prelude.{◌≡◌, Bool, true, false, not, cond, ◌&&◌, List, [], ◌∷◌, ℕ, T, eqb}
+use Rattle.std.specs.Prelude.{◌≡◌, Bool, true, false, not, cond, ◌&&◌, List, [], ◌∷◌, ℕ, T, None, Option, Some}
 use Rattle.rules.specs.Model.{CoordinationAction, Probe, Park, Recheck, Resume, Stop, Abort, State, Step}
 use Rattle.rules.specs.Walk.{quiet, emit}
 use Rattle.rules.specs.Publication.{all_published, announce}
@@ -9,6 +9,8 @@ use Rattle.rules.specs.Calls.{is_sound}
 use Rattle.state.specs.declared.FederateCoordinationState.{FederateCoordinationState as Held}
 use Rattle.state.specs.declared.Row.{Row}
 use Rattle.state.specs.declared.Parts.{Parts}
+use Rattle.state.specs.declared.Notice.{Notice}
+use Rattle.state.specs.declared.Notice.TheVariants.{Probe as AsProbe, Park as AsPark, Recheck as AsRecheck, Resume as AsResume, Stop as AsStop, Abort as AsAbort}
 use Rattle.state.specs.declared.Next.{Next}
 use Rattle.state.specs.declared.Next.TheVariants.{Says, Announces, Completes}
 use Rattle.state.specs.declared.Decided.{Decided}
@@ -20,13 +22,18 @@ use Rattle.state.specs.Parts.{Sized, Seated, parts_of, rebuilt, cleared}
 abbrev pub halfway : Held → ℕ → Decided → Held
 halfway s i d = rebuilt s i d.parts (cond d.forgets (cleared s.count s.observation) s.observation) s.gate
 
--- the action of a kind without tags, with this enclave and revision; none for any other number
-abbrev pub said_of : ℕ → ℕ → ℕ → List CoordinationAction
-said_of k e r =
-    cond (eqb k 6) (Probe r ∷ [])
-    (cond (eqb k 7) (Park r ∷ [])
-    (cond (eqb k 8) (Recheck r ∷ [])
-    (cond (eqb k 9) (Resume e r ∷ []) (cond (eqb k 10) (Stop ∷ []) (cond (eqb k 11) (Abort ∷ []) [])))))
+-- a notice as an action, with this enclave and revision
+abbrev pub action_of : Notice → ℕ → ℕ → CoordinationAction
+action_of AsProbe e r = Probe r
+action_of AsPark e r = Park r
+action_of AsRecheck e r = Recheck r
+action_of AsResume e r = Resume e r
+action_of AsStop e r = Stop
+action_of AsAbort e r = Abort
+
+abbrev pub said_of : Option Notice → ℕ → ℕ → List CoordinationAction
+said_of None e r = []
+said_of (Some n) e r = action_of n e r ∷ []
 
 -- the second half, of enclave e's message
 unfoldable pub conclusion : ℕ → Next → State → Step

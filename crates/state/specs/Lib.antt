@@ -3,3 +3,4 @@ pub mod Cells
 pub mod View
 pub mod Parts
 pub mod Decides
+pub mod Beside

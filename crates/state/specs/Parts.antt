@@ -79,6 +79,10 @@ rebuilt s i p o g = record {
   lifecycle = s.lifecycle;
 }
 
+-- the state with this row's cells at place i
+abbrev pub with_row : Held → ℕ → Row → Held
+with_row s i w = rebuilt s i (record { row = w; coordination = s.coordination; completion = s.completion; failed = s.failed; first_failure = s.first_failure }) s.observation s.gate
+
 -- the phase, and "pending publication cleared"
 abbrev pub without_pending : ℕ → Coordination → Coordination
 without_pending phase c = record {

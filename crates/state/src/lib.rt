@@ -108,11 +108,22 @@ pub struct Parts {
     pub first_failure: u32,
 }
 
+// An action without a tag (document 01, "Actions", kinds 6 to 11); its enclave and its revision are those of the call.
+#[derive(Clone, Copy)]
+pub enum Notice {
+    Probe,
+    Park,
+    Recheck,
+    Resume,
+    Stop,
+    Abort,
+}
+
 // How a scheduler message's own rule goes on once its parts are stored.
 #[derive(Clone, Copy)]
 pub enum Next {
-    // It says the action of this kind, or none if 0.
-    Says(u8),
+    // It says this action, if any.
+    Says(Option<Notice>),
     // It publishes if all participants now are, and resumes if told so.
     Announces(bool),
     // It completes the least completed tag if that passes the frontier.
@@ -135,20 +146,11 @@ pub const ABSENT: Tag = Tag {
     microstep: 0,
 };
 
-pub fn absent() -> Tag
-    ensures { result ≡ absent }
-{
-    ABSENT
-}
-
 // The cell of a tag that may be absent.
 pub fn cell_of(tag: Option<Tag>) -> Tag
     ensures { result ≡ cell_of tag }
 {
-    match tag {
-        None => ABSENT,
-        Some(t) => t,
-    }
+    tag.unwrap_or(ABSENT)
 }
 
 // The tag that a cell holds, if any.
@@ -169,14 +171,12 @@ pub fn without_pending(c: Coordination, phase: u8) -> Coordination
     ensures { result ≡ without_pending phase c }
 {
     Coordination {
-        revision: c.revision,
         phase,
-        authorized: c.authorized,
-        idle_authorization: c.idle_authorization,
         pending: false,
         pending_revision: 0,
         pending_next_event: ABSENT,
         pending_grant_horizon: ABSENT,
+        ..c
     }
 }
 

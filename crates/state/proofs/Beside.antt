@@ -1,0 +1,72 @@
+-- Of a state beside another: what is asked of the other's columns is asked of its own. By its parts. Assumes nothing.
+use mathlib.Core.Path.{◌≡◌, refl, subst}
+use Prim.Native.Nat.{ℕ}
+use Rattle.state.specs.declared.FederateCoordinationState.{FederateCoordinationState as Held}
+use Rattle.state.specs.View.{tag_at}
+use Rattle.state.specs.Parts.{row_of}
+use Rattle.state.specs.Beside.{Beside}
+
+-- t's columns with all the rest of s
+abbrev pub beside : Held → Held → Held
+beside t s = record {
+  count = t.count;
+  enclaves = t.enclaves;
+  published = t.published;
+  observation = s.observation;
+  acknowledged = t.acknowledged;
+  completion_observed = t.completion_observed;
+  seconds = t.seconds;
+  nanoseconds = t.nanoseconds;
+  microsteps = t.microsteps;
+  coordination = s.coordination;
+  completion = s.completion;
+  gate = s.gate;
+  grant_horizon = t.grant_horizon;
+  failed = s.failed;
+  first_failure = s.first_failure;
+  lifecycle = t.lifecycle;
+}
+
+pub beside-self : (s : Held) → Beside s s
+beside-self s = record {
+  enclaves = refl;
+  published = refl;
+  acknowledged = refl;
+  completion_observed = refl;
+  seconds = refl;
+  nanoseconds = refl;
+  microsteps = refl;
+  count = refl;
+  grant_horizon = refl;
+  lifecycle = refl;
+}
+
+module _ {s t : Held} (b : Beside s t) where
+  -- s is t's columns with all the rest of s
+  pub beside-is : beside t s ≡ s
+  beside-is =
+      rw (
+        ← b.enclaves,
+        ← b.published,
+        ← b.acknowledged,
+        ← b.completion_observed,
+        ← b.seconds,
+        ← b.nanoseconds,
+        ← b.microsteps,
+        ← b.count,
+        ← b.grant_horizon,
+        ← b.lifecycle,
+      ) refl
+
+  -- what holds of t's columns with the rest of s holds of s
+  pub beside-by : (P : Held → Type 0) → P (beside t s) → P s
+  beside-by P = subst P beside-is
+
+  pub beside-along : {u : Held} → t ≡ u → Beside s u
+  beside-along e = subst (Beside s) e b
+
+  pub tag-beside : (k : ℕ) → tag_at s k ≡ tag_at t k
+  tag-beside k = rw (b.seconds, b.nanoseconds, b.microsteps) refl
+
+  pub row-beside : (i : ℕ) → row_of s i ≡ row_of t i
+  row-beside i = rw (b.published, b.acknowledged, b.completion_observed, b.seconds, b.nanoseconds, b.microsteps) refl
