@@ -129,7 +129,7 @@ module _ (g : Given) (s : Held) {b c : Bool} {n : Option Refusal} (f : First g s
   pub first-shut : is_open g.room s.count b c ≡ false → refusal_number n ≡ 0 → ⊥
   first-shut shut = subst (λ (x : Option Refusal). refusal_number x ≡ 0 → ⊥) (sym f.is) (go short (leb (56 * (s.count + 2)) g.room) b c refl refl shut)
     where
-      go : (a d b c : Bool) → short ≡ a → leb (56 * (s.count + 2)) g.room ≡ d → (d && (b && c)) ≡ false → refusal_number (cond a (Some RoomTooSmall) (tag_first b c)) ≡ 0 → ⊥
+      go : (a d b c : Bool) → short ≡ a → leb (56 * (s.count + 2)) g.room ≡ d → (d && b && c) ≡ false → refusal_number (cond a (Some RoomTooSmall) (tag_first b c)) ≡ 0 → ⊥
       go true d b c h k q l = omega arith
       go false d false c h k q l = omega arith
       go false d true false h k q l = omega arith
@@ -155,7 +155,7 @@ module _ (g : Given) (s : Held) {b c : Bool} {n : Option Refusal} (f : First g s
 pub open-three : (room count : ℕ) (b c : Bool) → is_open room count b c ≡ true → (56 * (count + 2) ≤ room) × (b ≡ true) × (c ≡ true)
 open-three room count b c h = go (leb (56 * (count + 2)) room) b c refl h
   where
-    go : (a b c : Bool) → leb (56 * (count + 2)) room ≡ a → (a && (b && c)) ≡ true → (56 * (count + 2) ≤ room) × (b ≡ true) × (c ≡ true)
+    go : (a b c : Bool) → leb (56 * (count + 2)) room ≡ a → (a && b && c) ≡ true → (56 * (count + 2) ≤ room) × (b ≡ true) × (c ≡ true)
     go false b c q l = absurd (no_way l)
     go true false c q l = absurd (no_way l)
     go true true false q l = absurd (no_way l)

@@ -50,4 +50,4 @@ tag_first proper known = cond proper (cond known None (Some UnknownEnclave)) (So
 
 -- none of the three
 abbrev pub is_open : ℕ → ℕ → Bool → Bool → Bool
-is_open room count proper known = leb (56 * (count + 2)) room && (proper && known)
+is_open room count proper known = leb (56 * (count + 2)) room && proper && known

@@ -7,9 +7,9 @@ ghost use Rattle.calls.specs.Called.{replied, is_open, room_first, tag_first};
 use records::Refusal;
 use state::FederateCoordinationState;
 
-#[derive(Clone, Copy)]
+#[derive(Clone, Copy, PartialEq, Eq)]
 pub struct Reply {
-    // `Taken`, or why the call was refused.
+    // Why the call was refused, or none where it was taken.
     pub refusal: Option<Refusal>,
     pub answer: Option<bool>,
     // How many records were written, from byte 0 of the room.
@@ -44,7 +44,7 @@ pub fn is_open(room: usize, count: usize, proper: bool, known: bool) -> bool
     requires { count ≤ 32 }
     ensures { result ≡ is_open room count proper known }
 {
-    (56 * (count + 2) <= room) & (proper & known)
+    56 * (count + 2) <= room && proper && known
 }
 
 // 8 before a refusal that comes later, or before none.
@@ -53,9 +53,10 @@ pub fn room_first(room: usize, count: usize, later: Option<Refusal>) -> Option<R
     ensures { result ≡ room_first room count later }
 {
     if room < 56 * (count + 2) {
-        return Some(Refusal::RoomTooSmall);
+        Some(Refusal::RoomTooSmall)
+    } else {
+        later
     }
-    later
 }
 
 // 7 before 3, or neither.
@@ -63,10 +64,10 @@ pub fn tag_first(proper: bool, known: bool) -> Option<Refusal>
     ensures { result ≡ tag_first proper known }
 {
     if !proper {
-        return Some(Refusal::ImproperTag);
+        Some(Refusal::ImproperTag)
+    } else if !known {
+        Some(Refusal::UnknownEnclave)
+    } else {
+        None
     }
-    if !known {
-        return Some(Refusal::UnknownEnclave);
-    }
-    None
 }
