@@ -15,7 +15,7 @@ use denote.Struct.Declared.{row}
 use denote.Enum.Declared as enum
 use Rattle.tags.specs.declared.Tag.{Tag}
 use Rattle.tags.specs.contracts.Tag as tag
-use Rattle.tags.specs.contracts.OptionalTag as optional
+use Rattle.std.specs.contracts.option.Option as optional
 use Rattle.records.specs.declared.FederateAcquisition.{FederateAcquisition}
 use Rattle.records.specs.declared.FederatePublication.{FederatePublication}
 use Rattle.records.specs.declared.SchedulerMessage.{SchedulerMessage}
@@ -41,7 +41,7 @@ tag_fits t vs h =
     let f = h.1.1 in
     record { seconds = record { sfits = f.0.1 }; nanoseconds = record { sfits = f.1.0.1 }; microstep = record { fits = f.1.1.0.1 } }
 
-pub optional-fits : (m : Option Tag) (vs : List Val) → Is (enum.row optional.the_type) m vs → FitsOptional m
+pub optional-fits : (m : Option Tag) (vs : List Val) → Is (enum.row (optional.the_type (row tag.the_type))) m vs → FitsOptional m
 optional-fits None vs h = tt
 optional-fits (Some t) vs h = tag_fits t _ h.1.1.1.1.0
 

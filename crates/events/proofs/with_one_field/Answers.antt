@@ -4,10 +4,10 @@ use Rattle.numerals.proofs.Numbers.{number-le}
 use Rattle.events.proofs.with_one_field.Goals as goal
 
 pub overflow_cast-result : goal.overflow_cast-result
-overflow_cast-result c = grind (arith, number-le c.if-kind-eq10.most c.args.a.now c.in-Some.n (sym c.in-Some.ensures))
+overflow_cast-result c = grind (arith, number-le c.if-kind-eq10.most c.args.a.now c.in-Some-number.n (sym c.in-Some-number.ensures))
 
 pub overflow_cast-result-in-5 : goal.overflow_cast-result-in-5
-overflow_cast-result-in-5 c = grind (arith, number-le c.if-kind-eq10.most c.args.a.now c.in-Some.n (sym c.in-Some.ensures))
+overflow_cast-result-in-5 c = grind (arith, number-le c.if-kind-eq10.most c.args.a.now c.in-Some-number.n (sym c.in-Some-number.ensures))
 
 pub overflow_cast-result-in-6 : goal.overflow_cast-result-in-6
-overflow_cast-result-in-6 c = grind (arith, number-le c.if-kind-eq10.most c.args.a.now c.in-Some.n (sym c.in-Some.ensures))
+overflow_cast-result-in-6 c = grind (arith, number-le c.if-kind-eq10.most c.args.a.now c.in-Some-number.n (sym c.in-Some-number.ensures))
