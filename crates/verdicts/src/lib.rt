@@ -7,29 +7,29 @@ ghost use Rattle.state.specs.Cells.{phase_of};
 
 use records::{CoordinationPhase, Observation, Verdict};
 
-// The verdict's number for each phase and observation: 0 counts, 1 ignored, 2 refused. The last two phases are never looked up.
-const VERDICTS: [u8; 21] = [
-    2, // Active, Probed
-    2, // Active, Parked
-    2, // Active, Rechecked
-    0, // Probing, Probed
-    2, // Probing, Parked
-    2, // Probing, Rechecked
-    1, // Parking, Probed
-    0, // Parking, Parked
-    2, // Parking, Rechecked
-    1, // Rechecking, Probed
-    1, // Rechecking, Parked
-    0, // Rechecking, Rechecked
-    2, // Parked, Probed
-    2, // Parked, Parked
-    2, // Parked, Rechecked
-    1, // AwaitingIdleConfirmation, Probed
-    1, // AwaitingIdleConfirmation, Parked
-    1, // AwaitingIdleConfirmation, Rechecked
-    1, // Stopped, Probed
-    1, // Stopped, Parked
-    1, // Stopped, Rechecked
+// The verdict for each phase and observation. The last two phases are never looked up.
+const VERDICTS: [Verdict; 21] = [
+    Verdict::Refused, // Active, Probed
+    Verdict::Refused, // Active, Parked
+    Verdict::Refused, // Active, Rechecked
+    Verdict::Counts, // Probing, Probed
+    Verdict::Refused, // Probing, Parked
+    Verdict::Refused, // Probing, Rechecked
+    Verdict::Ignored, // Parking, Probed
+    Verdict::Counts, // Parking, Parked
+    Verdict::Refused, // Parking, Rechecked
+    Verdict::Ignored, // Rechecking, Probed
+    Verdict::Ignored, // Rechecking, Parked
+    Verdict::Counts, // Rechecking, Rechecked
+    Verdict::Refused, // Parked, Probed
+    Verdict::Refused, // Parked, Parked
+    Verdict::Refused, // Parked, Rechecked
+    Verdict::Ignored, // AwaitingIdleConfirmation, Probed
+    Verdict::Ignored, // AwaitingIdleConfirmation, Parked
+    Verdict::Ignored, // AwaitingIdleConfirmation, Rechecked
+    Verdict::Ignored, // Stopped, Probed
+    Verdict::Ignored, // Stopped, Parked
+    Verdict::Ignored, // Stopped, Rechecked
 ];
 
 // What becomes of an observation in the phase of this number.
@@ -38,17 +38,10 @@ pub fn verdict_in(phase: u8, observation: Observation) -> Verdict
     ensures { result ≡ rules.verdict_of (phase_of phase) observation }
 {
     let column = u8::from(observation);
-    let number = VERDICTS[(phase * 3 + column) as usize];
-    if number == 0 {
-        return Verdict::Counts;
-    }
-    if number == 1 {
-        return Verdict::Ignored;
-    }
-    Verdict::Refused
+    VERDICTS[(phase * 3 + column) as usize]
 }
 
-// What becomes of an observation in a phase.
+// The same of a phase rather than its number, as a caller has it that holds no state.
 pub fn verdict(phase: CoordinationPhase, observation: Observation) -> Verdict
     ensures { result ≡ rules.verdict_of phase observation }
 {
