@@ -146,6 +146,12 @@ pub const ABSENT: Tag = Tag {
     microstep: 0,
 };
 
+pub fn absent() -> Tag
+    ensures { result ≡ absent }
+{
+    ABSENT
+}
+
 // The cell of a tag that may be absent.
 pub fn cell_of(tag: Option<Tag>) -> Tag
     ensures { result ≡ cell_of tag }
