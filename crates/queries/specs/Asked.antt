@@ -1,7 +1,6 @@
 -- What a query on the state held promises, in the words of the rules (rules, Queries): 27 for what no call takes, else the query's answer.
 -- Assumes nothing.
-use Rattle.tags.specs.declared.Tag.{Tag}
-use Rattle.std.specs.Prelude.{◌≡◌, Bool, cond, ◌&&◌, None, Option, Some}
+use Rattle.std.specs.Prelude.{◌≡◌, Bool, cond, ◌&&◌, Option}
 use Rattle.records.specs.Numbers.{refusal_number}
 use Rattle.records.specs.declared.Refusal.{Refusal}
 use Rattle.rules.specs.Model.{State}
@@ -26,4 +25,3 @@ ask_held refused query s = answer_if (passes s) refused (query (view s))
 pub record Answers {A : Type 0} (asked : Asked A) (refusal : Option Refusal) (answer : A) : Type 0 where
   pub refused : refusal_number refusal ≡ asked.refusal
   pub answered : answer ≡ asked.answer
-

@@ -1,16 +1,19 @@
 -- `queries::candidate` refuses what is_sound refuses, and finds the enclave's place: one law for each return. Assumes nothing.
-use native.Mathlib.Omega.{arith}
+use Rattle.std.proofs.Common.{sym, ◌∙◌, arith}
 use Rattle.queries.proofs.Asking.{few, candidate-unknown, candidate-known}
 use Rattle.queries.proofs.candidate.Goals as goal
 
 pub find-place-requires : goal.find-place-requires
-find-place-requires c = few _ c.is_sound.ensures c.if-not-is_sound.false
+find-place-requires c = few _ (sym c.is_sound.ensures ∙ c.if-not-is_sound.false)
 
 pub returns-then-count-place : goal.returns-then-count-place
-returns-then-count-place c = candidate-unknown _ c.is_sound.ensures c.if-not-is_sound.false _ _ c.find-place.ensures c.if-count-place.true
+returns-then-count-place c =
+    candidate-unknown _ (sym c.is_sound.ensures ∙ c.if-not-is_sound.false) _ _ c.find-place.ensures c.if-count-place.true c.answer_if-then-count-place.ensures
 
-pub tag_at-cell-requires : goal.tag_at-cell-requires
-tag_at-cell-requires c = let n = few _ c.is_sound.ensures c.if-not-is_sound.false in let l = c.if-count-place.false in omega arith
+pub tag_at-requires : goal.tag_at-requires
+tag_at-requires c = omega (arith, few c.args.state (sym c.is_sound.ensures ∙ c.if-not-is_sound.false))
 
 pub returns : goal.returns
-returns c = candidate-known _ c.is_sound.ensures c.if-not-is_sound.false _ _ c.find-place.ensures _ c.if-count-place.false (rw c.tag_at-cell.ensures at c.optional_of-candidate.ensures)
+returns c =
+    candidate-known _ (sym c.is_sound.ensures ∙ c.if-not-is_sound.false) _ _ c.find-place.ensures c.if-count-place.false c.tag_at.ensures
+    (rw c.optional_of.ensures at c.answer_if-2.ensures)
