@@ -10,13 +10,14 @@ use native.Mathlib.Numerals.{add-one}
 use native.Mathlib.Omega.{arith}
 use borrow.Author.Tests.{not-true, not-false, eq-eqb, ne_eqb, lt-ltb, le-ltb, ltb-false}
 use lib.Dec.{T, eqb, ltb}
-use lib.IntN.{ℤ}
 use lib.ListN.{length, get_or, set}
 use lib.Seq.{set-get_or}
 use Rattle.tags.specs.Tags.{◌≤ₜ◌, ◌<ₜ◌, is_present, is_below, lesser_of, greater_of, lesser_present, greater_present, lesser_of_both}
 use Rattle.tags.proofs.Order.{≤ₜ-trans, ≤ₜ-total, greater-le-left, lesser-left, lesser-right, greater-comm, greater-assoc}
 use Rattle.rules.specs.Model.{Tag}
-use Rattle.state.specs.Cells.{absent, is_absent, optional_of, cell_of, tag_in}
+use Rattle.state.specs.declared.FederateCoordinationState.{FederateCoordinationState as Held}
+use Rattle.state.specs.Cells.{absent, is_absent, optional_of, cell_of}
+use Rattle.state.specs.View.{tag_at}
 use Rattle.state.specs.Walk.{all_of, any_of, place_from, least_from, greatest_from}
 use Rattle.state.specs.Parts.{Apart, cleared}
 use Rattle.table.specs.declared.Scanned.{Scanned}
@@ -130,8 +131,8 @@ clear-past l m i n h e = set-get_or m i 0 ∙ e ∙ ap (λ k. cleared k l) (with
 -- ---- down: the cell in hand means a fold of those present
 
 -- the cells of the completed tags
-abbrev pub completed_in : List ℤ → List ℤ → List ℕ → ℕ → Tag
-completed_in ss ns ms j = tag_in ss ns ms (32 + j)
+abbrev pub completed_at : Held → ℕ → Tag
+completed_at s j = tag_at s (32 + j)
 
 pub data Means : Tag → Option Tag → Type 0 where
   missing : Means absent None

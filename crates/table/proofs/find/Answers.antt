@@ -3,8 +3,8 @@ use borrow.Author.Rules.{rules}
 use Rattle.table.proofs.Loops.{seeks}
 use Rattle.table.proofs.find.Goals as goal
 
-pub returns-then-enclaves-i : goal.returns-then-enclaves-i
-returns-then-enclaves-i c = search (rules, seeks) depth 12
+pub returns-then-state-i : goal.returns-then-state-i
+returns-then-state-i c = search (rules, seeks) depth 12
 
 pub loop-i-preserved : goal.loop-i-preserved
 loop-i-preserved c = search (rules, seeks) depth 12

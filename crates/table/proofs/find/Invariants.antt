@@ -6,7 +6,6 @@ use Rattle.state.specs.Walk.{place_from}
 use Rattle.table.proofs.find.Given as goal
 
 abbrev pub invariant-loop-i : goal.invariant-loop-i
-invariant-loop-i l = place_from (λ j. eqb (get_or l.enclaves j 0) l.enclave) 0 l.count ≡ place_from (λ j. eqb (get_or l.enclaves j 0) l.enclave) l.i (l.count - l.i)
-
-abbrev pub decreases-loop-i : goal.decreases-loop-i
-decreases-loop-i l = l.count - l.i
+invariant-loop-i l =
+    place_from (λ j. eqb (get_or l.state.enclaves j 0) l.enclave) 0 l.state.count ≡
+    place_from (λ j. eqb (get_or l.state.enclaves j 0) l.enclave) l.i (l.state.count - l.i)

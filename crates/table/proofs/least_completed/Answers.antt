@@ -2,29 +2,23 @@
 -- Assumes nothing.
 use mathlib.Core.Path.{refl}
 use Prim.Native.Nat.{◌-◌}
-use borrow.Author.Rules.{rules}
-use Rattle.table.proofs.Loops.{completed_in, least, fold_start, fold-back}
-use Rattle.table.proofs.Loops.{every-start, every_back, every-lacks, has-tag, lacks-tag}
+use native.Mathlib.Omega.{arith}
+use Rattle.table.proofs.Loops.{completed_at, least, fold_start, fold-back, every-start, every_back, every-lacks, has-tag, lacks-tag}
 use Rattle.table.proofs.least_completed.Goals as goal
 
 pub loop-i-init : goal.loop-i-init
-loop-i-init c = let a = c.args in
-    let tags = completed_in a.seconds.now a.nanoseconds.now a.microsteps.now in
-    (search rules, every-start _ a.count, fold_start least tags a.count)
+loop-i-init c = let s = c.args.state.now in record { every = every-start _ s.count; least = fold_start least (completed_at s) s.count }
 
 pub returns-then-is_absent : goal.returns-then-is_absent
-returns-then-is_absent c = let a = c.args in
-    let tags = completed_in a.seconds.now a.nanoseconds.now a.microsteps.now in
-    let at = c.tag_at-completed in
-    let lacks = lacks-tag (tags (c.loop-i.i - 1)) at.ensures c.is_absent.ensures c.if-is_absent.true in
-    rw (every-lacks _ a.count c.loop-i.i (search rules) (search rules) lacks) refl
+returns-then-is_absent c = let s = c.args.state.now in
+    let lacks = lacks-tag (completed_at s (c.loop-i.i - 1)) c.tag_at-completed.ensures c.is_absent.ensures c.if-is_absent.true in
+    rw (every-lacks _ s.count c.loop-i.i (omega arith) (omega arith) lacks) refl
 
 pub loop-i-preserved : goal.loop-i-preserved
-loop-i-preserved c = let a = c.args in
-    let at = c.tag_at-completed in
-    let tags = completed_in a.seconds.now a.nanoseconds.now a.microsteps.now in
-    let has = has-tag (tags (c.loop-i.i - 1)) at.ensures c.is_absent.ensures c.if-is_absent.false in (
-      search rules,
-      every_back _ a.count c.loop-i.i (search rules) (search rules) c.loop-i.invariant.1 has,
-      fold-back least tags a.count c.loop-i.i _ _ _ (search rules) (search rules) c.loop-i.invariant.2 at.ensures c.lesser_cell-least.ensures,
-    )
+loop-i-preserved c = let s = c.args.state.now in
+    let i = c.loop-i.invariant in
+    let at = c.tag_at-completed.ensures in
+    let has = has-tag (completed_at s (c.loop-i.i - 1)) at c.is_absent.ensures c.if-is_absent.false in record {
+      every = every_back _ s.count c.loop-i.i (omega arith) (omega arith) i.every has;
+      least = fold-back least (completed_at s) s.count c.loop-i.i _ _ _ (omega arith) (omega arith) i.least at c.lesser_cell-least.ensures;
+    }

@@ -2,5 +2,5 @@
 use Rattle.table.proofs.Loops.{place-only}
 use Rattle.table.proofs.seat_of.Goals as goal
 
-pub returns-then-enclaves-guess : goal.returns-then-enclaves-guess
-returns-then-enclaves-guess c = place-only c.args.enclaves.now c.args.count c.args.enclave _ c.requires.1 c.if-guess-count.true c.if-enclaves-guess.true
+pub returns-then-state-guess : goal.returns-then-state-guess
+returns-then-state-guess c = let s = c.args.state.now in place-only s.enclaves s.count c.args.enclave _ c.requires.1 c.if-guess-state.true c.if-state-guess.true
