@@ -112,17 +112,7 @@ pub fn handle_acquisition(
             state.lifecycle,
         ),
     );
-    if !soundness::is_sound_with(
-        &state.enclaves,
-        &state.observation,
-        &state.acknowledged,
-        &state.completion_observed,
-        &state.seconds,
-        &state.nanoseconds,
-        &state.microsteps,
-        count,
-        small,
-    ) {
+    if !soundness::is_sound_with(&state, small) {
         return calls::with_reply(state, Some(Refusal::UnsoundState), None, 0);
     }
     let proper = tags::is_proper(acquisition.granted);
@@ -178,7 +168,7 @@ pub fn handle_acquisition(
 fn unless_refused(state: FederateCoordinationState, room: usize, later: Option<Refusal>) -> Called
     ensures { result ≡ unless_refused state room later }
 {
-    if !soundness::is_sound(state) {
+    if !soundness::is_sound(&state) {
         return calls::with_reply(state, Some(Refusal::UnsoundState), None, 0);
     }
     let refusal = calls::room_first(room, state.count, later);

@@ -22,9 +22,8 @@ use Rattle.state.specs.Parts.{Sized}
 use Rattle.state.specs.Decides.{Good}
 use Rattle.state.proofs.Neat.{count-bounds}
 use Rattle.state.proofs.Put.{Beyond, beyond-refl, holds-is-put}
-use Rattle.soundness.specs.Lent.{LentColumns}
 use Rattle.soundness.specs.Sound.{sound_publication, sound_flags, sound_inputs, sound_acquisition, sound_rest, sound_small}
-use Rattle.soundness.proofs.Sound.{small-by-leaves, columns_of}
+use Rattle.soundness.proofs.Sound.{small-by-leaves}
 use Rattle.calls.specs.Called.{refusal_of, Promised, replied}
 use Rattle.calls.specs.declared.Called.{Called}
 use Rattle.calls.proofs.Refusals.{Passes, passes, refusal-27, refused, taken}
@@ -52,7 +51,7 @@ sized-by s a b c d e f g h = record {
   microsteps = lasting s.microsteps 96 h;
 }
 
--- what 27 asks of it, by its small parts' tests, of coordination and completion and then of the rest, and by the columns' own
+-- what 27 asks of it, by its small parts' tests, of coordination and completion and then of the rest, and by the test that rests on them
 pub sound-by-leaves : (s : Held) {flags publication frontiers inputs both horizons acquisition rest small r : Bool}
     → let c = s.coordination in let k = s.completion in let g = s.gate in
     flags ≡ sound_flags c.phase c.authorized c.idle_authorization
@@ -64,12 +63,10 @@ pub sound-by-leaves : (s : Held) {flags publication frontiers inputs both horizo
     → acquisition ≡ sound_acquisition g.stored_revision g.stored_granted
     → rest ≡ sound_rest s.grant_horizon s.failed s.first_failure s.lifecycle
     → small ≡ (both && horizons && acquisition && rest)
-    → (LentColumns s s.enclaves s.observation s.acknowledged s.completion_observed s.seconds s.nanoseconds s.microsteps s.count
-    → small ≡ sound_small s → r ≡ (represents s && is_sound (view s)))
+    → (small ≡ sound_small s → r ≡ (represents s && is_sound (view s)))
     → r ≡ (represents s && is_sound (view s))
-sound-by-leaves s a b d i p j q r z by-columns =
-    by-columns (columns_of s)
-    (small-by-leaves s.coordination s.completion s.gate s.grant_horizon s.failed s.first_failure s.lifecycle a b d i j q r p z)
+sound-by-leaves s a b d i p j q r z by-small =
+    by-small (small-by-leaves s.coordination s.completion s.gate s.grant_horizon s.failed s.first_failure s.lifecycle a b d i j q r p z)
 
 -- ---- a state that passes 27
 

@@ -66,17 +66,7 @@ pub fn handle_scheduler(
             state.lifecycle,
         ),
     );
-    if !soundness::is_sound_with(
-        &state.enclaves,
-        &state.observation,
-        &state.acknowledged,
-        &state.completion_observed,
-        &state.seconds,
-        &state.nanoseconds,
-        &state.microsteps,
-        count,
-        small,
-    ) {
+    if !soundness::is_sound_with(&state, small) {
         return calls::with_reply(state, Some(Refusal::UnsoundState), None, 0);
     }
     let flat = dispatch::flat_of(message);

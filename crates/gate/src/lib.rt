@@ -29,7 +29,7 @@ pub fn set_input_horizon(mut state: FederateCoordinationState, horizon: Option<T
     ensures { Promised (lent 0 (capping horizon)) state result }
 {
     let mut refusal = Some(Refusal::UnsoundState);
-    if soundness::is_sound(state) {
+    if soundness::is_sound(&state) {
         refusal = Some(Refusal::ImproperTag);
         if tags::proper_if_present(horizon) {
             let mut gate = state.gate;
@@ -60,7 +60,7 @@ pub fn begin_tag(mut state: FederateCoordinationState, enclave: EnclaveIndex, ta
     let horizon = gate.input_horizon;
     let mut refusal = None;
     let mut answer = Some(false);
-    if !soundness::is_sound(state) {
+    if !soundness::is_sound(&state) {
         refusal = Some(Refusal::UnsoundState);
     } else if !tags::is_proper(tag) {
         refusal = Some(Refusal::ImproperTag);
@@ -89,7 +89,7 @@ fn asked(state: FederateCoordinationState, enclave: EnclaveIndex, tag: Tag, is_l
     let count = state.count;
     let mut refusal = None;
     let mut yes = false;
-    if !soundness::is_sound(state) {
+    if !soundness::is_sound(&state) {
         refusal = Some(Refusal::UnsoundState);
     } else if !tags::is_proper(tag) {
         refusal = Some(Refusal::ImproperTag);
@@ -192,7 +192,7 @@ pub fn input_publishing(mut state: FederateCoordinationState, affected: &[u32]) 
     let completion = state.completion;
     let mut gate = state.gate;
     let mut refusal = Some(Refusal::UnsoundState);
-    if soundness::is_sound(state) {
+    if soundness::is_sound(&state) {
         refusal = Some(Refusal::UnknownEnclave);
         if are_known(&state.enclaves, count, affected) {
             let published = state.published;

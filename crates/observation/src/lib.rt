@@ -144,7 +144,7 @@ pub fn handle_observation(
     let coordination = state.coordination;
     let mut place: usize = 0;
     let mut refusal = Some(Refusal::UnsoundState);
-    if soundness::is_sound(state) {
+    if soundness::is_sound(&state) {
         place = table::find(&state.enclaves, count, enclave);
         refusal = calls::room_first(room.len(), count, calls::tag_first(true, place < count));
     }
@@ -190,7 +190,7 @@ pub fn handle_idle_confirmation(
 {
     let count = state.count;
     let coordination = state.coordination;
-    let refusal = if soundness::is_sound(state) {
+    let refusal = if soundness::is_sound(&state) {
         calls::room_first(room.len(), count, None)
     } else {
         Some(Refusal::UnsoundState)
@@ -212,7 +212,7 @@ pub fn stop(mut state: FederateCoordinationState, room: &mut [u8]) -> Called
 {
     let count = state.count;
     let coordination = state.coordination;
-    let refusal = if soundness::is_sound(state) {
+    let refusal = if soundness::is_sound(&state) {
         calls::room_first(room.len(), count, None)
     } else {
         Some(Refusal::UnsoundState)

@@ -70,7 +70,7 @@ pub fn no_publication_and_no_probe(c: Coordination, k: Completion) -> bool
 pub fn revision(state: FederateCoordinationState) -> Answer<u64>
     ensures { Answers (ask_held 0 (λ s. s.revision) state) result.refusal result.answer }
 {
-    answer_if(soundness::is_sound(state), 0, state.coordination.revision)
+    answer_if(soundness::is_sound(&state), 0, state.coordination.revision)
 }
 
 // The generation; refused: 0.
@@ -78,7 +78,7 @@ pub fn generation(state: FederateCoordinationState) -> Answer<u64>
     ensures { Answers (ask_held 0 (λ s. s.completion_generation) state) result.refusal result.answer }
 {
     answer_if(
-        soundness::is_sound(state),
+        soundness::is_sound(&state),
         0,
         state.completion.completion_generation,
     )
@@ -89,7 +89,7 @@ pub fn phase(state: FederateCoordinationState) -> Answer<CoordinationPhase>
     ensures { Answers (ask_held Active (λ s. s.phase) state) result.refusal result.answer }
 {
     let phase = phase_of(state.coordination.phase);
-    answer_if(soundness::is_sound(state), CoordinationPhase::Active, phase)
+    answer_if(soundness::is_sound(&state), CoordinationPhase::Active, phase)
 }
 
 // Whether the phase is Stopped; refused: no.
@@ -100,7 +100,7 @@ pub fn is_stopped(state: FederateCoordinationState) -> Answer<bool>
         phase_of(state.coordination.phase),
         CoordinationPhase::Stopped
     );
-    answer_if(soundness::is_sound(state), false, stopped)
+    answer_if(soundness::is_sound(&state), false, stopped)
 }
 
 // Whether no publication is pending and no completion probe is out; refused: no.
@@ -108,7 +108,7 @@ pub fn is_settled(state: FederateCoordinationState) -> Answer<bool>
     ensures { Answers (ask_held false is_settled state) result.refusal result.answer }
 {
     let settled = no_publication_and_no_probe(state.coordination, state.completion);
-    answer_if(soundness::is_sound(state), false, settled)
+    answer_if(soundness::is_sound(&state), false, settled)
 }
 
 // The enclave whose failure is stored; refused: absent.
@@ -116,7 +116,7 @@ pub fn first_failure(state: FederateCoordinationState) -> Answer<Option<u32>>
     ensures { Answers (ask_held None (λ s. s.first_failure) state) result.refusal result.answer }
 {
     let failure = state.failed.then_some(state.first_failure);
-    answer_if(soundness::is_sound(state), None, failure)
+    answer_if(soundness::is_sound(&state), None, failure)
 }
 
 // The horizon granted; refused: absent.
@@ -124,7 +124,7 @@ pub fn grant_horizon(state: FederateCoordinationState) -> Answer<Option<Tag>>
     ensures { Answers (ask_held None (λ s. s.grant_horizon) state) result.refusal result.answer }
 {
     let horizon = state::optional_of(state.grant_horizon);
-    answer_if(soundness::is_sound(state), None, horizon)
+    answer_if(soundness::is_sound(&state), None, horizon)
 }
 
 // The completed frontier; refused: absent.
@@ -132,7 +132,7 @@ pub fn completed_frontier(state: FederateCoordinationState) -> Answer<Option<Tag
     ensures { Answers (ask_held None (λ s. s.completed_frontier) state) result.refusal result.answer }
 {
     let frontier = state::optional_of(state.completion.completed_frontier);
-    answer_if(soundness::is_sound(state), None, frontier)
+    answer_if(soundness::is_sound(&state), None, frontier)
 }
 
 // The publication that waits to be acquired; refused: absent.
@@ -140,7 +140,7 @@ pub fn pending_publication(state: FederateCoordinationState) -> Answer<Option<Fe
     ensures { Answers (ask_held None (λ s. s.pending_publication) state) result.refusal result.answer }
 {
     let publication = publication_of(state.coordination);
-    answer_if(soundness::is_sound(state), None, publication)
+    answer_if(soundness::is_sound(&state), None, publication)
 }
 
 // The revision whose idle confirmation is awaited; refused: absent.
@@ -151,14 +151,14 @@ pub fn idle_confirmation_revision(state: FederateCoordinationState) -> Answer<Op
         CoordinationPhase::AwaitingIdleConfirmation => Some(state.coordination.revision),
         _ => None,
     };
-    answer_if(soundness::is_sound(state), None, awaited)
+    answer_if(soundness::is_sound(&state), None, awaited)
 }
 
 // The candidate of an enclave; refused: unknown.
 pub fn candidate(state: FederateCoordinationState, enclave: u32) -> Answer<Option<Option<Tag>>>
     ensures { Answers (ask_held None (candidate_of enclave) state) result.refusal result.answer }
 {
-    if !soundness::is_sound(state) {
+    if !soundness::is_sound(&state) {
         return answer_if(false, None, None);
     }
     let count = state.count;

@@ -67,7 +67,7 @@ pub fn list_end(state: FederateCoordinationState, out: &mut [u8]) -> usize
     if out.len() < 240 {
         return 0;
     }
-    if !soundness::is_sound(state) {
+    if !soundness::is_sound(&state) {
         let phase = CoordinationPhase::Active;
         return listing::put_end(
             out,

@@ -1,10 +1,9 @@
 -- What a cell of a tag can be: the mark of an absent tag, another tag with such nanoseconds, a proper tag, or any other. Every law on cells goes by
 -- these four. Assumes nothing.
 use mathlib.Core.Path.{◌≡◌, refl, sym, ap, ◌∙◌, subst}
-use mathlib.Core.Bool.{Bool, true, false, and-false, or-true, or-false, and-eq-true_iff}
-use lib.Dec.{T, eqb}
+use mathlib.Core.Bool.{Bool, true, false, and-false, and-eq-true_iff}
+use lib.Dec.{T}
 use lib.IntN.{ℤ, pos}
-use borrow.Author.Tests.{eqb-true, eqb-false}
 use Rattle.tags.specs.Tags.{◌≤ₜ◌, ◌≡ₜ◌, proper_time, is_proper}
 use Rattle.tags.proofs.Order.{≤ₜ-anti}
 use Rattle.rules.specs.Model.{Tag}
@@ -21,24 +20,6 @@ mark-is t e =
     let p = (and-eq-true_iff (t ≤ₜ absent) (absent ≤ₜ t)).0 e in
     ≤ₜ-anti t absent (holds (t ≤ₜ absent) p.0) (holds (absent ≤ₜ t) p.1)
 
-pub mark-not : (t : Tag) → (t ≡ absent → ⊥) → false ≡ (t ≡ₜ absent)
-mark-not t h = go (t ≡ₜ absent) refl
-  where
-    go : (b : Bool) → (t ≡ₜ absent) ≡ b → false ≡ b
-    go true e = absurd (h (mark-is t e))
-    go false e = refl
-
-pub mark-by : (t : Tag) → t.seconds ≡ absent.seconds → t.nanoseconds ≡ absent.nanoseconds → eqb t.microstep 0 ≡ (t ≡ₜ absent)
-unfolding ◌≤ₜ◌
-mark-by t s n = go (eqb t.microstep 0) refl
-  where
-    go : (b : Bool) → eqb t.microstep 0 ≡ b → b ≡ (t ≡ₜ absent)
-    go true e =
-        let m = eqb-true t.microstep 0 e in
-        let same : t ≡ absent = λ i. record { seconds = s i; nanoseconds = n i; microstep = m i } in
-        rw same refl
-    go false e = mark-not t (λ same. eqb-false t.microstep 0 e (ap (λ (u : Tag). u.microstep) same))
-
 -- ---- properness
 
 proper-none : (s : ℤ) → proper_time s (pos 0) ≡ true
@@ -49,12 +30,6 @@ proper-none s = simp and-false
 
 pub cell-none : (t : Tag) → t.nanoseconds ≡ pos 0 → true ≡ is_cell t
 cell-none t e = rw (e, proper-none t.seconds) refl
-
-pub cell-mark : (t : Tag) {r : Bool} → r ≡ (t ≡ₜ absent) → r ≡ true → true ≡ is_cell t
-cell-mark t e h = sym (simp (sym e ∙ h, or-true))
-
-pub cell_other : (t : Tag) {r x : Bool} → r ≡ (t ≡ₜ absent) → r ≡ false → x ≡ is_proper t → x ≡ is_cell t
-cell_other t e h k = k ∙ sym (simp (sym e ∙ h, or-false))
 
 -- ---- the four: absent, the mark, proper
 

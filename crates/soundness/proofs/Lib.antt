@@ -1,4 +1,3 @@
 pub mod Cells
-pub mod Steps
 pub mod Places
 pub mod Sound

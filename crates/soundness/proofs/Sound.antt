@@ -2,11 +2,9 @@
 -- is its two halves, one of each; then only the order of the tests differs. Assumes nothing.
 use mathlib.Core.Path.{◌≡◌, refl, sym, ◌∙◌}
 use mathlib.Core.Bool.{Bool, true, false, not, cond, ◌&&◌, and-true, and-false, and_self, and_assoc, and_comm}
-use mathlib.Core.List.{List}
 use Prim.Native.Nat.{ℕ, zero, suc, ◌+◌, ◌<◌}
 use native.Mathlib.Omega.{arith}
 use lib.Dec.{leb, ltb, eqb, leb-suc-suc}
-use lib.IntN.{ℤ}
 use lib.ListN.{get_or}
 use borrow.Author.Tests.{ltb-true, leb-true, lt-ltb, le-ltb, le-leb}
 use Rattle.tags.specs.Tags.{◌≡ₜ◌, is_proper, proper_if_present}
@@ -21,7 +19,6 @@ use Rattle.state.specs.Walk.{tab, all_of}
 use Rattle.state.specs.Cells.{absent, is_absent, optional_of, is_neat, is_cell, is_zero_unless, publication_if, inputs_of, stored_of}
 use Rattle.state.specs.View.{tag_at, row_at, rows_of, view, neat_at, neat_coordination, neat_completion, neat_gate, represents}
 use Rattle.state.proofs.Rows.{all-rows, all_same, length-rows, cell-split}
-use Rattle.soundness.specs.Lent.{LentColumns}
 use Rattle.soundness.specs.Sound.{rises, sound_at, sound_publication, sound_flags, sound_coordination, sound_inputs, sound_completion, sound_acquisition, sound_gate, sound_parts, sound_rest, sound_small, sound_places}
 use Rattle.soundness.proofs.Cells.{Told, mark, hidden, proper, improper, told}
 
@@ -129,7 +126,7 @@ module _ (s : Held) where
       go false m e f = refl
 
   rises-is : (k n : ℕ) → k + n ≡ s.count
-      → all_of (rises s.enclaves s.count) k n ≡ (ascending (tab (row_at s) k n) && all_of low k n)
+      → all_of (rises s) k n ≡ (ascending (tab (row_at s) k n) && all_of low k n)
   unfolding all_of
   rises-is k zero e = refl
   rises-is k (suc zero) e = rw (le-ltb (k + 1) s.count (omega arith), leb-suc-suc (index k) 4095) refl
@@ -141,10 +138,7 @@ module _ (s : Held) where
   place-tags : ℕ → Bool
   place-tags j = proper-if (tag_at s j) && proper-if (tag_at s (32 + j)) && proper-if (tag_at s (64 + j))
 
-  abbrev sound-at : ℕ → Bool
-  sound-at j = sound_at s.observation s.acknowledged s.completion_observed s.seconds s.nanoseconds s.microsteps j
-
-  place_is : (j : ℕ) → sound-at j ≡ (neat_at s j && place-tags j)
+  place_is : (j : ℕ) → sound_at s j ≡ (neat_at s j && place-tags j)
   unfolding place-tags
   place_is j = rw (cell-split (tag_at s j), cell-split (tag_at s (32 + j)), cell-split (tag_at s (64 + j))) (simp sorted)
 
@@ -156,14 +150,13 @@ module _ (s : Held) where
       parted i a b g c = simp sorted
 
   -- all places
-  places-are : sound_places s.enclaves s.observation s.acknowledged s.completion_observed s.seconds s.nanoseconds s.microsteps s.count
-      ≡ ((ascending (rows_of s) && all_of low 0 s.count) && (all_of (neat_at s) 0 s.count && all_of place-tags 0 s.count))
+  places-are : sound_places s ≡ ((ascending (rows_of s) && all_of low 0 s.count) && (all_of (neat_at s) 0 s.count && all_of place-tags 0 s.count))
   places-are =
       let n = s.count in
       rw (
-        all-and (rises s.enclaves n) sound-at 0 n,
+        all-and (rises s) (sound_at s) 0 n,
         rises-is 0 n (omega arith),
-        all_same sound-at (λ j. neat_at s j && place-tags j) 0 n (λ j p q. place_is j),
+        all_same (sound_at s) (λ j. neat_at s j && place-tags j) 0 n (λ j p q. place_is j),
         all-and (neat_at s) place-tags 0 n,
       )
       refl
@@ -184,8 +177,8 @@ module _ (s : Held) where
 
 -- ---- the whole, in the order of the code
 
-abbrev pub sound_of : Bool → List ℕ → List ℕ → List Bool → List ℕ → List ℤ → List ℤ → List ℕ → ℕ → Bool
-sound_of small es os bs cs ss ns ms n = (ltb 0 n && leb n 32) && (small && sound_places es os bs cs ss ns ms n)
+abbrev sound_of : Bool → Held → Bool
+sound_of small s = (ltb 0 s.count && leb s.count 32) && (small && sound_places s)
 
 -- at most 32; coordination, completion, gate and rest with their tags; the indices ascend and are low, the places are neat and their tags proper
 ordered : (m c c₁ k k₁ k₂ k₃ g g₁ g₂ g₃ l h₁ h f a i p q : Bool)
@@ -193,15 +186,11 @@ ordered : (m c c₁ k k₁ k₂ k₃ g g₁ g₂ g₃ l h₁ h f a i p q : Bool)
     ((p && c && k && g && h && f && l) && (m && a && ((i && q) && g₂) && h₁ && k₁ && k₂ && g₁ && c₁ && k₃ && g₃))
 ordered m c c₁ k k₁ k₂ k₃ g g₁ g₂ g₃ l h₁ h f a i p q = simp sorted
 
-abbrev sound_held : Held → Bool
-sound_held s =
-    sound_of (sound_small s) s.enclaves s.observation s.acknowledged s.completion_observed s.seconds s.nanoseconds s.microsteps s.count
-
-sound-held : (s : Held) → sound_held s ≡ (represents s && is_sound (view s))
+sound-of : (s : Held) → sound_of (sound_small s) s ≡ (represents s && is_sound (view s))
 unfolding represents is_sound
-sound-held s = go (ltb 0 s.count) refl
+sound-of s = go (ltb 0 s.count) refl
   where
-    go : (z : Bool) → ltb 0 s.count ≡ z → sound_held s ≡ (represents s && is_sound (view s))
+    go : (z : Bool) → ltb 0 s.count ≡ z → sound_of (sound_small s) s ≡ (represents s && is_sound (view s))
     go false e = simp (length-rows s, e, and-false)
     go true e =
         let c = s.coordination in
@@ -216,30 +205,13 @@ sound-held s = go (ltb 0 s.count) refl
         (leb s.lifecycle 2) (proper-if h) (is_neat h) (is_zero_unless s.failed s.first_failure) (ascending (rows_of s)) (all_of (low s) 0 s.count)
         (all_of (neat_at s) 0 s.count) (all_of (place-tags s) 0 s.count))
 
-pub sound-of : {s : Held} {es os : List ℕ} {bs : List Bool} {cs : List ℕ} {ss ns : List ℤ} {ms : List ℕ} {n : ℕ}
-    → LentColumns s es os bs cs ss ns ms n → sound_of (sound_small s) es os bs cs ss ns ms n ≡ (represents s && is_sound (view s))
-sound-of {s} p =
-    rw (
-      ← p.enclaves,
-      ← p.observation,
-      ← p.acknowledged,
-      ← p.observed,
-      ← p.seconds,
-      ← p.nanoseconds,
-      ← p.microsteps,
-      ← p.count,
-    )
-    (sound-held s)
+-- by the tests of the count, the small parts and the places
+pub sound-by : (s : Held) {a b d : Bool} → a ≡ (ltb 0 s.count && leb s.count 32) → b ≡ sound_small s → d ≡ sound_places s
+    → (a && (b && d)) ≡ (represents s && is_sound (view s))
+sound-by s p q r = rw (p, q, r) (sound-of s)
 
 -- ---- the small parts' tests, as callers join them
 
--- by part
-pub small_by : (s : Held) {a b d r x : Bool}
-    → a ≡ sound_coordination s.coordination → b ≡ sound_completion s.completion → d ≡ sound_gate s.gate
-    → r ≡ sound_rest s.grant_horizon s.failed s.first_failure s.lifecycle → x ≡ (a && b && d && r) → x ≡ sound_small s
-small_by s t u v w q = rw (q, t, u, v, w) (simp and_assoc)
-
--- by leaf
 module _ (c : Coordination) (k : Completion) (g : Gate) (h : Tag) (f : Bool) (e l : ℕ) where
   pub small-by-leaves : {flags publication frontiers inputs horizons acquisition rest x y : Bool}
       → flags ≡ sound_flags c.phase c.authorized c.idle_authorization
@@ -252,17 +224,3 @@ module _ (c : Coordination) (k : Completion) (g : Gate) (h : Tag) (f : Bool) (e 
       → x ≡ (flags && publication && frontiers && inputs) → y ≡ (x && horizons && acquisition && rest)
       → y ≡ (sound_parts c k g && sound_rest h f e l)
   small-by-leaves a b d i j q r p z = rw (z, p, a, b, d, i, j, q, r) (simp and_assoc)
-
--- a state's own columns are its columns
-pub columns_of : (s : Held) → LentColumns s s.enclaves s.observation s.acknowledged s.completion_observed s.seconds s.nanoseconds s.microsteps
-    s.count
-columns_of s = record {
-  enclaves = refl;
-  observation = refl;
-  acknowledged = refl;
-  observed = refl;
-  seconds = refl;
-  nanoseconds = refl;
-  microsteps = refl;
-  count = refl;
-}

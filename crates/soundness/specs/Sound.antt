@@ -1,6 +1,6 @@
 -- The tests of 27 on the pieces of a state, in the order in which they are made: on each small part, then at each place of the columns. Each says at
 -- once that the piece holds something of document 01 (View, `represents`) and that its tags are proper (Calls, `is_sound`). Assumes nothing.
-use Rattle.std.specs.Prelude.{Bool, false, cond, ◌&&◌, List, ℕ, ◌+◌, leb, ltb, eqb, ℤ, get_or}
+use Rattle.std.specs.Prelude.{Bool, false, cond, ◌&&◌, ℕ, ◌+◌, leb, ltb, eqb, get_or}
 use Rattle.tags.specs.Tags.{◌≡ₜ◌, is_proper}
 use Rattle.rules.specs.Model.{Tag}
 use Rattle.state.specs.declared.FederateCoordinationState.{FederateCoordinationState as Held}
@@ -8,7 +8,8 @@ use Rattle.state.specs.declared.Coordination.{Coordination}
 use Rattle.state.specs.declared.Completion.{Completion}
 use Rattle.state.specs.declared.Gate.{Gate}
 use Rattle.state.specs.Walk.{all_of}
-use Rattle.state.specs.Cells.{absent, is_cell, is_zero_unless, tag_in}
+use Rattle.state.specs.Cells.{absent, is_cell, is_zero_unless}
+use Rattle.state.specs.View.{tag_at}
 
 -- ---- the small parts
 
@@ -49,17 +50,17 @@ sound_small s =
 -- ---- the participants
 
 -- what the index at place j must lie below: the next index, or 4,096 at the last place
-abbrev pub ceiling : List ℕ → ℕ → ℕ → ℕ
-ceiling es n j = cond (ltb j n) (get_or es j 0) 4096
+abbrev pub ceiling : Held → ℕ → ℕ
+ceiling s j = cond (ltb j s.count) (get_or s.enclaves j 0) 4096
 
-abbrev pub rises : List ℕ → ℕ → ℕ → Bool
-rises es n j = ltb (get_or es j 0) (ceiling es n (j + 1))
+abbrev pub rises : Held → ℕ → Bool
+rises s j = ltb (get_or s.enclaves j 0) (ceiling s (j + 1))
 
-abbrev pub sound_at : List ℕ → List Bool → List ℕ → List ℤ → List ℤ → List ℕ → ℕ → Bool
-sound_at os bs cs ss ns ms j =
-    leb (get_or os j 0) 3 &&
-    (is_zero_unless (get_or bs j false) (get_or cs j 0) &&
-    (is_cell (tag_in ss ns ms j) && (is_cell (tag_in ss ns ms (32 + j)) && is_cell (tag_in ss ns ms (64 + j)))))
+abbrev pub sound_at : Held → ℕ → Bool
+sound_at s j =
+    leb (get_or s.observation j 0) 3 &&
+    (is_zero_unless (get_or s.acknowledged j false) (get_or s.completion_observed j 0) &&
+    (is_cell (tag_at s j) && (is_cell (tag_at s (32 + j)) && is_cell (tag_at s (64 + j)))))
 
-abbrev pub sound_places : List ℕ → List ℕ → List Bool → List ℕ → List ℤ → List ℤ → List ℕ → ℕ → Bool
-sound_places es os bs cs ss ns ms n = all_of (λ j. rises es n j && sound_at os bs cs ss ns ms j) 0 n
+abbrev pub sound_places : Held → Bool
+sound_places s = all_of (λ j. rises s j && sound_at s j) 0 s.count

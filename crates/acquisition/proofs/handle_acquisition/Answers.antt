@@ -27,7 +27,7 @@ tested c =
     let s = c.args.state in
     sound-by-leaves s c.flags_are_sound.ensures c.publication_is_sound.ensures c.are_cells.ensures
     c.inputs_are_sound.ensures c.all_hold-both.ensures c.are_cells-2.ensures c.acquisition_is_sound.ensures
-    c.rest_is_sound.ensures c.all_hold-small.ensures (c.is_sound_with.ensures s)
+    c.rest_is_sound.ensures c.all_hold-small.ensures c.is_sound_with.ensures
 
 stands : (c : After-is_sound_with) → c.is_sound_with.result ≡ true → Standing c.args.state
 stands c h = let sized : Sized c.args.state = search rules in standing c.args.state sized (tested c) h

@@ -42,7 +42,7 @@ sound-is : (c : After-is_sound_with) → c.is_sound_with.result ≡ (represents 
 sound-is c =
     sound-by-leaves c.args.state c.flags_are_sound.ensures c.publication_is_sound.ensures c.are_cells.ensures
     c.inputs_are_sound.ensures c.all_hold-both.ensures c.are_cells-2.ensures c.acquisition_is_sound.ensures
-    c.rest_is_sound.ensures c.all_hold-small.ensures (c.is_sound_with.ensures c.args.state)
+    c.rest_is_sound.ensures c.all_hold-small.ensures c.is_sound_with.ensures
 
 stands : (c : After-is_sound_with) → c.is_sound_with.result ≡ true → Standing c.args.state
 stands c h = standing c.args.state (sized c) (sound-is c) h

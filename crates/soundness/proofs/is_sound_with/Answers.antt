@@ -1,18 +1,10 @@
--- `soundness::is_sound_with` is what 27 asks of any state that has these columns and such small parts: its tests are those of `sound_of`, which are together
--- what 27 asks (Sound.antt). Assumes nothing.
-use mathlib.Core.Path.{◌∙◌}
-use Rattle.soundness.proofs.Steps.{and-not-yes, and-not-no}
-use Rattle.soundness.proofs.Sound.{sound-of}
+-- `soundness::is_sound_with` is what 27 asks where the small parts' tests are `small`: by the law of Sound for the count's test and the places'. Assumes nothing.
+use Rattle.std.proofs.Common.{refl, arith}
+use Rattle.soundness.proofs.Sound.{sound-by}
 use Rattle.soundness.proofs.is_sound_with.Goals as goal
 
--- no participant, or over 32
-pub returns-then-not-count_is_sound : goal.returns-then-not-count_is_sound
-returns-then-not-count_is_sound c s l e = and-not-no _ c.count_is_sound.ensures c.if-not-count_is_sound.true ∙ sound-of l
+pub returns-then-small : goal.returns-then-small
+returns-then-small c e = grind (arith, sound-by c.args.state.now c.count_is_sound.ensures e c.places_are_sound.ensures)
 
--- a small part
-pub returns-then-not-small : goal.returns-then-not-small
-returns-then-not-small c s l e = and-not-yes _ c.count_is_sound.ensures c.if-not-count_is_sound.false (and-not-no _ e c.if-not-small.true) ∙ sound-of l
-
--- by the places
-pub returns : goal.returns
-returns c s l e = and-not-yes _ c.count_is_sound.ensures c.if-not-count_is_sound.false (and-not-yes _ e c.if-not-small.false c.places_are_sound.ensures) ∙ sound-of l
+pub returns-else-small : goal.returns-else-small
+returns-else-small c e = grind (arith, sound-by c.args.state.now c.count_is_sound.ensures e refl)

@@ -1,31 +1,26 @@
--- `soundness::places_are_sound` is `rises` and `sound_at` at every place. Assumes nothing.
-use native.Mathlib.Omega.{arith}
+-- `soundness::places_are_sound` is `rises` and `sound_at` at every place: each return, and each further place, by the laws of Places. Assumes nothing.
+use Rattle.std.proofs.Common.{◌-◌, sym, ◌∙◌, arith}
 use Rattle.soundness.proofs.Places.{ceiling-at, index-fails, place-fails, place-passes, all_none}
 use Rattle.soundness.proofs.places_are_sound.Goals as goal
+use Rattle.soundness.proofs.places_are_sound.Goals.{then-above-index-via-then-above-index, then-above-index-via-else-above-index+then-not-place_is_sound}
 
--- the index is at its ceiling or over it
 pub returns-then-above-index : goal.returns-then-above-index
-returns-then-above-index c = let l = c.loop-i in
-    let a = c.args in
-    index-fails a.enclaves.now a.count _ l.i (omega arith) l.invariant.1.0 l.invariant.1.1 (omega arith)
-
--- the place is not sound
-pub returns-then-not-place_is_sound : goal.returns-then-not-place_is_sound
-returns-then-not-place_is_sound c = let l = c.loop-i in
-    let a = c.args in
-    place-fails a.enclaves.now a.count _ l.i (omega arith) l.invariant.1.0 l.invariant.1.1 _ c.place_is_sound.ensures c.if-not-place_is_sound.true
+returns-then-above-index c =
+    let s = c.args.state.now in
+    let l = c.loop-i in
+    elim c.then-above-index.branch [
+      | then-above-index-via-then-above-index w ↦ index-fails s l.i c.loop-i-test.true l.invariant.0 w.if-above-index.true ∙ sym l.invariant.1
+      | then-above-index-via-else-above-index+then-not-place_is_sound w ↦
+          place-fails s l.i c.loop-i-test.true l.invariant.0 w.place_is_sound.ensures w.if-not-place_is_sound.true ∙ sym l.invariant.1
+    ]
 
 pub loop-i-preserved : goal.loop-i-preserved
-loop-i-preserved c = let l = c.loop-i in
-    let a = c.args in
-    let e = c.place_is_sound.ensures in (
-      omega arith,
-      (
-        ceiling-at a.enclaves.now a.count l.i (omega arith) (omega arith),
-        place-passes a.enclaves.now a.count _ l.i (omega arith) l.invariant.1.0 l.invariant.1.1 (omega arith) _ e c.if-not-place_is_sound.false,
-      ),
+loop-i-preserved c =
+    let s = c.args.state.now in
+    let l = c.loop-i in (
+      ceiling-at s (l.i - 1) (omega arith),
+      l.invariant.1 ∙ place-passes s l.i c.loop-i-test.true l.invariant.0 c.if-above-index.false c.place_is_sound.ensures c.if-not-place_is_sound.false,
     )
 
--- every place is
 pub returns : goal.returns
-returns c = all_none _ _ _ c.loop-i.invariant.1.1 (omega arith)
+returns c = all_none _ c.loop-i.i (omega arith) ∙ sym c.loop-i.invariant.1
