@@ -1,7 +1,6 @@
 -- What the code's answers tell, in the terms of Events, and the enclaves that an `input` line names. Assumes nothing.
 use Rattle.std.specs.Prelude.{ℕ, zero, suc, ◌+◌, Bool, true, false, cond, List, [], ◌∷◌, ltb, length, take, drop, None, Option, Some}
 use Rattle.numerals.specs.Numerals.{split, space}
-use Rattle.rules.specs.Model.{Observation}
 use Rattle.rules.specs.Model.{Call, active, stopped, publish, complete, observed, failed, acquire, sent, observe, idle, stop, progress, horizon, begin, late, done, input}
 use Rattle.events.specs.declared.Event.{Event}
 use Rattle.events.specs.declared.Event.TheVariants as event
@@ -10,46 +9,52 @@ use Rattle.events.specs.Events.{event_of}
 -- ---- events
 
 -- the call that an event tells; what `input` names stands beside it
-abbrev pub told_event : Event → List ℕ → Option Call
-told_event event.NoEvent es = None
-told_event (event.Active e) es = Some (active e)
-told_event (event.Publish e t) es = Some (publish e t)
-told_event (event.Complete e t m) es = Some (complete e t m)
-told_event (event.Observed e g) es = Some (observed e g)
-told_event (event.Stopped e) es = Some (stopped e)
-told_event (event.Failed e) es = Some (failed e)
-told_event (event.Acquire r t) es = Some (acquire r t)
-told_event (event.Sent r t h) es = Some (sent r t h)
-told_event (event.Observe e r o) es = Some (observe e r o)
-told_event (event.Idle r) es = Some (idle r)
-told_event event.Stop es = Some stop
-told_event (event.Horizon t) es = Some (horizon t)
-told_event (event.Begin e t) es = Some (begin e t)
-told_event (event.Late e t) es = Some (late e t)
-told_event (event.Done e t) es = Some (done e t)
-told_event (event.Input n) es = Some (input (take n es))
-told_event event.Progress es = Some progress
+abbrev pub call_told : Event → List ℕ → Call
+call_told (event.Active e) es = active e
+call_told (event.Publish e t) es = publish e t
+call_told (event.Complete e t m) es = complete e t m
+call_told (event.Observed e g) es = observed e g
+call_told (event.Stopped e) es = stopped e
+call_told (event.Failed e) es = failed e
+call_told (event.Acquire r t) es = acquire r t
+call_told (event.Sent r t h) es = sent r t h
+call_told (event.Observe e r o) es = observe e r o
+call_told (event.Idle r) es = idle r
+call_told event.Stop es = stop
+call_told (event.Horizon t) es = horizon t
+call_told (event.Begin e t) es = begin e t
+call_told (event.Late e t) es = late e t
+call_told (event.Done e t) es = done e t
+call_told (event.Input n) es = input (take n es)
+call_told event.Progress es = progress
+
+abbrev pub told_event : Option Event → List ℕ → Option Call
+told_event None es = None
+told_event (Some e) es = Some (call_told e es)
 
 -- the event that tells a call; the count of enclaves for `input`
-abbrev pub event_for : Option Call → Event
-event_for None = event.NoEvent
-event_for (Some (active e)) = event.Active e
-event_for (Some (publish e t)) = event.Publish e t
-event_for (Some (complete e t m)) = event.Complete e t m
-event_for (Some (observed e g)) = event.Observed e g
-event_for (Some (stopped e)) = event.Stopped e
-event_for (Some (failed e)) = event.Failed e
-event_for (Some (acquire r t)) = event.Acquire r t
-event_for (Some (sent r t h)) = event.Sent r t h
-event_for (Some (observe e r o)) = event.Observe e r o
-event_for (Some (idle r)) = event.Idle r
-event_for (Some stop) = event.Stop
-event_for (Some (horizon t)) = event.Horizon t
-event_for (Some (begin e t)) = event.Begin e t
-event_for (Some (late e t)) = event.Late e t
-event_for (Some (done e t)) = event.Done e t
-event_for (Some (input es)) = event.Input (length es)
-event_for (Some progress) = event.Progress
+abbrev pub event_telling : Call → Event
+event_telling (active e) = event.Active e
+event_telling (publish e t) = event.Publish e t
+event_telling (complete e t m) = event.Complete e t m
+event_telling (observed e g) = event.Observed e g
+event_telling (stopped e) = event.Stopped e
+event_telling (failed e) = event.Failed e
+event_telling (acquire r t) = event.Acquire r t
+event_telling (sent r t h) = event.Sent r t h
+event_telling (observe e r o) = event.Observe e r o
+event_telling (idle r) = event.Idle r
+event_telling stop = event.Stop
+event_telling (horizon t) = event.Horizon t
+event_telling (begin e t) = event.Begin e t
+event_telling (late e t) = event.Late e t
+event_telling (done e t) = event.Done e t
+event_telling (input es) = event.Input (length es)
+event_telling progress = event.Progress
+
+abbrev pub event_for : Option Call → Option Event
+event_for None = None
+event_for (Some c) = Some (event_telling c)
 
 -- ---- the enclaves of an `input` line
 

@@ -3,7 +3,7 @@
 #![tactic(auto)]
 
 ghost use Rattle.std.specs.Prelude.{◌≡◌};
-ghost use Rattle.events.specs.Events.{mark_of, observation_of, with_one_field, with_two_fields, with_three_fields};
+ghost use Rattle.events.specs.Events.{word_of, wide_of, enclave_of, mark_of, observation_of, with_one_field, with_two_fields, with_three_fields};
 ghost use Rattle.events.specs.Told.{event_for};
 
 use records::Observation;
@@ -12,7 +12,6 @@ use tags::Tag;
 // The call that a line tells, by its word in document 01. `Input` has the count of the enclaves that stand beside it.
 #[derive(Clone, Copy)]
 pub enum Event {
-    NoEvent,
     Active(u32),
     Publish(u32, Option<Tag>),
     Complete(u32, Tag, bool),
@@ -30,6 +29,30 @@ pub enum Event {
     Done(u32, Tag),
     Input(usize),
     Progress,
+}
+
+// E, and a count.
+fn word(t: &[u8]) -> Option<u32>
+    ensures { result ≡ word_of t.now }
+{
+    Some(numerals::number(t, 4294967295)? as u32)
+}
+
+// R, G.
+fn wide(t: &[u8]) -> Option<u64>
+    ensures { result ≡ wide_of t.now }
+{
+    numerals::number(t, u64::MAX)
+}
+
+// `E|-`.
+fn enclave(t: &[u8]) -> Option<Option<u32>>
+    ensures { result ≡ enclave_of t.now }
+{
+    if octets::same_bytes(t, b"-") {
+        return Some(None);
+    }
+    Some(Some(word(t)?))
 }
 
 // `0|1`.
@@ -61,104 +84,52 @@ fn observation(t: &[u8]) -> Option<Observation>
     None
 }
 
+// Kept: an event's word is a number here, as document 01 has it ("choosing by kind number .. when events are decoded").
+
 // `active E`, `stopped E`, `failed E|-`, `idle R`, `horizon T|-`.
 #[tactic(auto, unfolding(crate::specs::Events::with_one_field))]
-pub fn with_one_field(kind: u8, a: &[u8]) -> Event
+pub fn with_one_field(kind: u8, a: &[u8]) -> Option<Event>
     ensures { result ≡ event_for (with_one_field kind a.now) }
 {
-    if kind == 12 {
-        let Some(tag) = numerals::optional_tag(a) else {
-            return Event::NoEvent;
-        };
-        return Event::Horizon(tag);
-    }
-    let absent = octets::same_bytes(a, b"-");
-    if kind == 6 && absent {
-        return Event::Failed(None);
-    }
-    let most = if kind == 10 { u64::MAX } else { 4294967295 };
-    let Some(n) = numerals::number(a, most) else {
-        return Event::NoEvent;
-    };
     match kind {
-        1 => Event::Active(n as u32),
-        5 => Event::Stopped(n as u32),
-        6 => Event::Failed(Some(n as u32)),
-        10 => Event::Idle(n),
-        _ => Event::NoEvent,
+        1 => Some(Event::Active(word(a)?)),
+        5 => Some(Event::Stopped(word(a)?)),
+        6 => Some(Event::Failed(enclave(a)?)),
+        10 => Some(Event::Idle(wide(a)?)),
+        12 => Some(Event::Horizon(numerals::optional_tag(a)?)),
+        _ => None,
     }
 }
 
 // `publish E T|-`, `observed E G`, `acquire R T`, `begin E T`, `late E T`, `done E T`.
 #[tactic(auto, unfolding(crate::specs::Events::with_two_fields))]
-pub fn with_two_fields(kind: u8, a: &[u8], b: &[u8]) -> Event
+pub fn with_two_fields(kind: u8, a: &[u8], b: &[u8]) -> Option<Event>
     ensures { result ≡ event_for (with_two_fields kind a.now b.now) }
 {
-    let most = if kind == 7 { u64::MAX } else { 4294967295 };
-    let Some(n) = numerals::number(a, most) else {
-        return Event::NoEvent;
-    };
-    if kind == 2 {
-        let Some(next_event) = numerals::optional_tag(b) else {
-            return Event::NoEvent;
-        };
-        return Event::Publish(n as u32, next_event);
-    }
-    if kind == 4 {
-        let Some(generation) = numerals::number(b, u64::MAX) else {
-            return Event::NoEvent;
-        };
-        return Event::Observed(n as u32, generation);
-    }
-    let Some(tag) = numerals::tag(b) else {
-        return Event::NoEvent;
-    };
     match kind {
-        7 => Event::Acquire(n, tag),
-        13 => Event::Begin(n as u32, tag),
-        14 => Event::Late(n as u32, tag),
-        15 => Event::Done(n as u32, tag),
-        _ => Event::NoEvent,
+        2 => Some(Event::Publish(word(a)?, numerals::optional_tag(b)?)),
+        4 => Some(Event::Observed(word(a)?, wide(b)?)),
+        7 => Some(Event::Acquire(wide(a)?, numerals::tag(b)?)),
+        13 => Some(Event::Begin(word(a)?, numerals::tag(b)?)),
+        14 => Some(Event::Late(word(a)?, numerals::tag(b)?)),
+        15 => Some(Event::Done(word(a)?, numerals::tag(b)?)),
+        _ => None,
     }
 }
 
 // `complete E T 0|1`, `sent R T|- T|-`, `observe E R probed|parked|rechecked`.
 #[tactic(auto, unfolding(crate::specs::Events::with_three_fields))]
-pub fn with_three_fields(kind: u8, a: &[u8], b: &[u8], c: &[u8]) -> Event
+pub fn with_three_fields(kind: u8, a: &[u8], b: &[u8], c: &[u8]) -> Option<Event>
     ensures { result ≡ event_for (with_three_fields kind a.now b.now c.now) }
 {
-    let most = if kind == 8 { u64::MAX } else { 4294967295 };
-    let Some(n) = numerals::number(a, most) else {
-        return Event::NoEvent;
-    };
     match kind {
-        3 => {
-            let Some(tag) = numerals::tag(b) else {
-                return Event::NoEvent;
-            };
-            let Some(network_input) = mark(c) else {
-                return Event::NoEvent;
-            };
-            Event::Complete(n as u32, tag, network_input)
-        }
-        8 => {
-            let Some(next_event) = numerals::optional_tag(b) else {
-                return Event::NoEvent;
-            };
-            let Some(horizon) = numerals::optional_tag(c) else {
-                return Event::NoEvent;
-            };
-            Event::Sent(n, next_event, horizon)
-        }
-        9 => {
-            let Some(revision) = numerals::number(b, u64::MAX) else {
-                return Event::NoEvent;
-            };
-            let Some(seen) = observation(c) else {
-                return Event::NoEvent;
-            };
-            Event::Observe(n as u32, revision, seen)
-        }
-        _ => Event::NoEvent,
+        3 => Some(Event::Complete(word(a)?, numerals::tag(b)?, mark(c)?)),
+        8 => Some(Event::Sent(
+            wide(a)?,
+            numerals::optional_tag(b)?,
+            numerals::optional_tag(c)?,
+        )),
+        9 => Some(Event::Observe(word(a)?, wide(b)?, observation(c)?)),
+        _ => None,
     }
 }
