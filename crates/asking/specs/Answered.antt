@@ -24,13 +24,10 @@ phase_asked refusal p = asked_with refusal true (phase_number p) None None
 abbrev pub tag_asked : ℕ → Option Tag → AskedNumbers
 tag_asked refusal t = asked_with refusal (is_present t) 0 t None
 
-abbrev pub enclave_asked : ℕ → Option ℕ → AskedNumbers
-enclave_asked refusal None = asked_with refusal false 0 None None
-enclave_asked refusal (Some e) = asked_with refusal true e None None
-
-abbrev pub revision_asked : ℕ → Option ℕ → AskedNumbers
-revision_asked refusal None = asked_with refusal false 0 None None
-revision_asked refusal (Some n) = asked_with refusal true n None None
+-- an enclave or a revision
+abbrev pub optional_asked : ℕ → Option ℕ → AskedNumbers
+optional_asked refusal None = asked_with refusal false 0 None None
+optional_asked refusal (Some n) = asked_with refusal true n None None
 
 abbrev pub publication_asked : ℕ → Option FederatePublication → AskedNumbers
 publication_asked refusal None = asked_with refusal false 0 None None

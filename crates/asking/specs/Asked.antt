@@ -8,7 +8,7 @@ use Rattle.rules.specs.Queries.{Asked, is_settled, idle_confirmation_revision, c
 use Rattle.state.specs.declared.FederateCoordinationState.{FederateCoordinationState as Held}
 use Rattle.queries.specs.Asked.{ask_held}
 use Rattle.asking.specs.declared.AskedNumbers.{AskedNumbers}
-use Rattle.asking.specs.Answered.{asked_with, number_asked, bool_asked, phase_asked, tag_asked, enclave_asked, revision_asked, publication_asked, candidate_asked}
+use Rattle.asking.specs.Answered.{asked_with, number_asked, bool_asked, phase_asked, tag_asked, optional_asked, publication_asked, candidate_asked}
 
 -- a refusal and an answer in these numbers
 abbrev pub told : {A : Type 0} → (ℕ → A → AskedNumbers) → Asked A → AskedNumbers
@@ -22,10 +22,10 @@ asked_of q e s =
     (cond (eqb q 3) (told phase_asked (ask_held Active (λ m. m.phase) s))
     (cond (eqb q 4) (told bool_asked (ask_held false is_stopped s))
     (cond (eqb q 5) (told bool_asked (ask_held false is_settled s))
-    (cond (eqb q 6) (told enclave_asked (ask_held None (λ m. m.first_failure) s))
+    (cond (eqb q 6) (told optional_asked (ask_held None (λ m. m.first_failure) s))
     (cond (eqb q 7) (told tag_asked (ask_held None (λ m. m.grant_horizon) s))
     (cond (eqb q 8) (told tag_asked (ask_held None (λ m. m.completed_frontier) s))
     (cond (eqb q 9) (told publication_asked (ask_held None (λ m. m.pending_publication) s))
-    (cond (eqb q 10) (told revision_asked (ask_held None idle_confirmation_revision s))
-    (cond (eqb q 11) (told candidate_asked (ask_held None (λ m. (candidate_of e m)) s))
+    (cond (eqb q 10) (told optional_asked (ask_held None idle_confirmation_revision s))
+    (cond (eqb q 11) (told candidate_asked (ask_held None (candidate_of e) s))
     (asked_with (refusal_number (Some ScriptOutOfForm)) false 0 None None)))))))))))

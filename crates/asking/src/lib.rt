@@ -3,19 +3,16 @@
 // Any other number is refused 11, whatever the state; a query is refused 27 as in the crate queries, and answers then what is said there.
 #![tactic(auto)]
 
-ghost use Rattle.std.specs.Prelude.{◌≡◌, None};
+ghost use Rattle.std.specs.Prelude.{◌≡◌};
 ghost use Rattle.records.specs.Numbers.{refusal_number};
-ghost use Rattle.asking.specs.Answered.{asked_with, number_asked, bool_asked, phase_asked, tag_asked};
-ghost use Rattle.asking.specs.Answered.{enclave_asked, revision_asked, publication_asked, candidate_asked};
+ghost use Rattle.asking.specs.Answered.{asked_with, number_asked, bool_asked, phase_asked, tag_asked, optional_asked, publication_asked, candidate_asked};
 ghost use Rattle.asking.specs.Asked.{asked_of};
 
 use plain::TagNumbers;
-use queries::{
-    BoolAnswer, CandidateAnswer, EnclaveAnswer, NumberAnswer, PhaseAnswer,
-    PublicationAnswer, RevisionAnswer, TagAnswer,
-};
-use records::Refusal;
+use queries::Answer;
+use records::{CoordinationPhase, FederatePublication, Refusal};
 use state::FederateCoordinationState;
+use tags::Tag;
 
 // A query's answer. What the query does not answer by is 0 or absent.
 #[repr(C)]
@@ -48,96 +45,79 @@ fn asked(
     }
 }
 
-fn untagged(refusal: Option<Refusal>, present: bool, number: u64) -> AskedNumbers
-    ensures { result ≡ asked_with (refusal_number refusal) present number None None }
-{
-    asked(
-        refusal,
-        present,
-        number,
-        None,
-        None,
-    )
-}
+impl From<Answer<u64>> for AskedNumbers {
+    ghost from_gives = { λ a r. r ≡ number_asked (refusal_number a.refusal) a.answer };
 
-fn number_asked(a: NumberAnswer) -> AskedNumbers
-    ensures { result ≡ number_asked (refusal_number a.refusal) a.answer }
-{
-    let refusal = a.refusal;
-    untagged(refusal, true, a.answer)
+    fn from(a: Answer<u64>) -> AskedNumbers {
+        asked(a.refusal, true, a.answer, None, None)
+    }
 }
 
 // Yes is 1, no is 0.
-fn bool_asked(a: BoolAnswer) -> AskedNumbers
-    ensures { result ≡ bool_asked (refusal_number a.refusal) a.answer }
-{
-    let refusal = a.refusal;
-    let number = if a.answer { 1 } else { 0 };
-    untagged(refusal, true, number)
-}
+impl From<Answer<bool>> for AskedNumbers {
+    ghost from_gives = { λ a r. r ≡ bool_asked (refusal_number a.refusal) a.answer };
 
-fn phase_asked(a: PhaseAnswer) -> AskedNumbers
-    ensures { result ≡ phase_asked (refusal_number a.refusal) a.answer }
-{
-    let refusal = a.refusal;
-    let phase = a.answer;
-    let number = u8::from(phase) as u64;
-    untagged(refusal, true, number)
-}
-
-fn enclave_asked(a: EnclaveAnswer) -> AskedNumbers
-    ensures { result ≡ enclave_asked (refusal_number a.refusal) a.answer }
-{
-    let refusal = a.refusal;
-    let answer = a.answer;
-    match answer {
-        None => untagged(refusal, false, 0),
-        Some(e) => untagged(refusal, true, e as u64),
+    fn from(a: Answer<bool>) -> AskedNumbers {
+        asked(a.refusal, true, u64::from(a.answer), None, None)
     }
 }
 
-fn tag_asked(a: TagAnswer) -> AskedNumbers
-    ensures { result ≡ tag_asked (refusal_number a.refusal) a.answer }
-{
-    let refusal = a.refusal;
-    let tag = a.answer;
-    asked(refusal, tags::is_present(tag), 0, tag, None)
-}
+impl From<Answer<CoordinationPhase>> for AskedNumbers {
+    ghost from_gives = { λ a r. r ≡ phase_asked (refusal_number a.refusal) a.answer };
 
-fn revision_asked(a: RevisionAnswer) -> AskedNumbers
-    ensures { result ≡ revision_asked (refusal_number a.refusal) a.answer }
-{
-    let refusal = a.refusal;
-    let answer = a.answer;
-    match answer {
-        None => untagged(refusal, false, 0),
-        Some(n) => untagged(refusal, true, n),
+    fn from(a: Answer<CoordinationPhase>) -> AskedNumbers {
+        let number = u64::from(u8::from(a.answer));
+        asked(a.refusal, true, number, None, None)
     }
 }
 
-fn publication_asked(a: PublicationAnswer) -> AskedNumbers
-    ensures { result ≡ publication_asked (refusal_number a.refusal) a.answer }
-{
-    let refusal = a.refusal;
-    let answer = a.answer;
-    match answer {
-        None => untagged(refusal, false, 0),
-        Some(p) => {
-            let next_event = p.next_event;
-            let grant_horizon = p.grant_horizon;
-            asked(refusal, true, p.revision, next_event, grant_horizon)
+impl From<Answer<Option<u32>>> for AskedNumbers {
+    ghost from_gives = { λ a r. r ≡ optional_asked (refusal_number a.refusal) a.answer };
+
+    fn from(a: Answer<Option<u32>>) -> AskedNumbers {
+        let number = a.answer.map_or(0, u64::from);
+        asked(a.refusal, a.answer.is_some(), number, None, None)
+    }
+}
+
+impl From<Answer<Option<Tag>>> for AskedNumbers {
+    ghost from_gives = { λ a r. r ≡ tag_asked (refusal_number a.refusal) a.answer };
+
+    fn from(a: Answer<Option<Tag>>) -> AskedNumbers {
+        asked(a.refusal, a.answer.is_some(), 0, a.answer, None)
+    }
+}
+
+impl From<Answer<Option<u64>>> for AskedNumbers {
+    ghost from_gives = { λ a r. r ≡ optional_asked (refusal_number a.refusal) a.answer };
+
+    fn from(a: Answer<Option<u64>>) -> AskedNumbers {
+        asked(
+            a.refusal,
+            a.answer.is_some(),
+            a.answer.unwrap_or(0),
+            None,
+            None,
+        )
+    }
+}
+
+impl From<Answer<Option<FederatePublication>>> for AskedNumbers {
+    ghost from_gives = { λ a r. r ≡ publication_asked (refusal_number a.refusal) a.answer };
+
+    fn from(a: Answer<Option<FederatePublication>>) -> AskedNumbers {
+        match a.answer {
+            None => asked(a.refusal, false, 0, None, None),
+            Some(p) => asked(a.refusal, true, p.revision, p.next_event, p.grant_horizon),
         }
     }
 }
 
-fn candidate_asked(a: CandidateAnswer) -> AskedNumbers
-    ensures { result ≡ candidate_asked (refusal_number a.refusal) a.answer }
-{
-    let refusal = a.refusal;
-    let answer = a.answer;
-    match answer {
-        None => untagged(refusal, false, 0),
-        Some(tag) => asked(refusal, true, 0, tag, None),
+impl From<Answer<Option<Option<Tag>>>> for AskedNumbers {
+    ghost from_gives = { λ a r. r ≡ candidate_asked (refusal_number a.refusal) a.answer };
+
+    fn from(a: Answer<Option<Option<Tag>>>) -> AskedNumbers {
+        asked(a.refusal, a.answer.is_some(), 0, a.answer.flatten(), None)
     }
 }
 
@@ -147,17 +127,17 @@ pub fn ask(state: FederateCoordinationState, question: u8, enclave: u32) -> Aske
     ensures { result ≡ asked_of question enclave state }
 {
     match question {
-        1 => number_asked(queries::revision(state)),
-        2 => number_asked(queries::generation(state)),
-        3 => phase_asked(queries::phase(state)),
-        4 => bool_asked(queries::is_stopped(state)),
-        5 => bool_asked(queries::is_settled(state)),
-        6 => enclave_asked(queries::first_failure(state)),
-        7 => tag_asked(queries::grant_horizon(state)),
-        8 => tag_asked(queries::completed_frontier(state)),
-        9 => publication_asked(queries::pending_publication(state)),
-        10 => revision_asked(queries::idle_confirmation_revision(state)),
-        11 => candidate_asked(queries::candidate(state, enclave)),
-        0 | 12..=255 => untagged(Some(Refusal::ScriptOutOfForm), false, 0),
+        1 => queries::revision(state).into(),
+        2 => queries::generation(state).into(),
+        3 => queries::phase(state).into(),
+        4 => queries::is_stopped(state).into(),
+        5 => queries::is_settled(state).into(),
+        6 => queries::first_failure(state).into(),
+        7 => queries::grant_horizon(state).into(),
+        8 => queries::completed_frontier(state).into(),
+        9 => queries::pending_publication(state).into(),
+        10 => queries::idle_confirmation_revision(state).into(),
+        11 => queries::candidate(state, enclave).into(),
+        0 | 12..=255 => asked(Some(Refusal::ScriptOutOfForm), false, 0, None, None),
     }
 }
