@@ -161,9 +161,8 @@ pub fn candidate(state: FederateCoordinationState, enclave: u32) -> Answer<Optio
     if !soundness::is_sound(&state) {
         return answer_if(false, None, None);
     }
-    let count = state.count;
-    let place = table::find(&state.enclaves, count, enclave);
-    if count <= place {
+    let place = table::find(&state, enclave);
+    if state.count <= place {
         return answer_if(true, None, None);
     }
     answer_if(true, None, Some(state::optional_of(state.tag_at(place))))
