@@ -1,5 +1,6 @@
 -- What `activate` decides is Active's rule, in its two ways: the small parts agree by computation, the participants by the laws of Halves.
 -- Assumes nothing.
+use Rattle.std.specs.Prelude.{None, Some}
 use mathlib.Core.Path.{◌≡◌, refl, sym, ap, ◌∙◌}
 use mathlib.Core.Bool.{true, false}
 use mathlib.Core.List.{List, [], ◌∷◌}
@@ -15,6 +16,7 @@ use Rattle.state.specs.declared.Coordination.{Coordination}
 use Rattle.state.specs.declared.Completion.{Completion}
 use Rattle.state.specs.declared.Parts.{Parts}
 use Rattle.state.specs.declared.Decided.{Decided}
+use Rattle.state.specs.declared.Notice.TheVariants.{Resume as Resumes}
 use Rattle.state.specs.declared.Next.TheVariants.{Says}
 use Rattle.state.specs.View.{view}
 use Rattle.state.specs.Parts.{Seated, parts_of}
@@ -40,10 +42,10 @@ unlisted p c k = record {
 }
 
 abbrev stopping : Parts → Decided
-stopping p = saying 0 (unlisted p p.coordination (unprobed_of p.completion))
+stopping p = saying None (unlisted p p.coordination (unprobed_of p.completion))
 
 abbrev resuming : Parts → Decided
-resuming p = record { parts = unlisted p (revised_of p.coordination) (unprobed_of p.completion); forgets = true; next = Says 9 }
+resuming p = record { parts = unlisted p (revised_of p.coordination) (unprobed_of p.completion); forgets = true; next = Says (Some Resumes) }
 
 -- ---- each return, in a state that has the parts
 
@@ -66,7 +68,7 @@ module _ (e : ℕ) (s : Held) (i : ℕ) (g : Good s) (d : Seated s e i) where
 -- ---- each return, of the parts
 
 module _ (p : Parts) (k : Completion) (u : k ≡ unprobed_of p.completion) where
-  pub activate-stopped : p.coordination.phase ≡ 6 → (e : ℕ) → Decides (activate_of e) e p (saying 0 (unlisted p p.coordination k))
+  pub activate-stopped : p.coordination.phase ≡ 6 → (e : ℕ) → Decides (activate_of e) e p (saying None (unlisted p p.coordination k))
   activate-stopped h e = rw u (decides-by (activate_of e) e (λ z. z.coordination.phase ≡ 6) stopping (stopped-step e) p h)
 
   pub neat-stopped : T (neat_parts p) → T (neat_parts (unlisted p p.coordination k))
@@ -78,7 +80,7 @@ module _ (p : Parts) (k : Completion) (u : k ≡ unprobed_of p.completion) where
 
   module _ (c : Coordination) (w : c ≡ revised_of p.coordination) where
     pub activate-running : (p.coordination.phase ≡ 6 → ⊥) → (e : ℕ)
-        → Decides (activate_of e) e p (record { parts = unlisted p c k; forgets = true; next = Says 9 })
+        → Decides (activate_of e) e p (record { parts = unlisted p c k; forgets = true; next = Says (Some Resumes) })
     activate-running h e = rw (u, w) (decides-by (activate_of e) e (λ z. z.coordination.phase ≡ 6 → ⊥) resuming (running-step e) p h)
 
     pub neat-running : T (neat_parts p) → T (neat_parts (unlisted p c k))

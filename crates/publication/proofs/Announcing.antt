@@ -1,12 +1,11 @@
--- What `announce` answers is Publish's second half in every state that has what it was given. All published and the least candidate are walks over the
+-- What `announce` answers is Publish's second half in every state beside the one it was lent. All published and the least candidate are walks over the
 -- columns; the least candidate is one that a cell holds, so that its own cell holds it; the phase is told by its number. Assumes nothing.
 use Rattle.std.specs.Prelude.{None, Option, Some}
 use mathlib.Core.Path.{◌≡◌, refl, sym, ap, ◌∙◌}
 use mathlib.Core.Bool.{Bool, true, false, cond}
-use mathlib.Core.List.{List, [], ◌∷◌}
+use mathlib.Core.List.{[], ◌∷◌}
 use Prim.Native.Nat.{ℕ}
 use lib.Dec.{T, eqb}
-use lib.IntN.{ℤ}
 use lib.ListN.{get_or}
 use Rattle.records.specs.Numbers.{phase_number}
 use Rattle.rules.specs.Model.{CoordinatedTermination, KeepAlive, LifecyclePolicy, Probe, Tag, TerminateWhenIdle}
@@ -16,14 +15,15 @@ use Rattle.state.specs.declared.FederateCoordinationState.{FederateCoordinationS
 use Rattle.state.specs.declared.Coordination.{Coordination}
 use Rattle.state.specs.declared.Gate.{Gate}
 use Rattle.state.specs.Walk.{all_of, least_from}
-use Rattle.state.specs.Cells.{cell_of, is_neat, optional_of, policy_of, tag_in}
-use Rattle.state.specs.View.{view, neat_gate, represents}
+use Rattle.state.specs.Beside.{Beside}
+use Rattle.state.specs.Cells.{cell_of, is_neat, optional_of, policy_of}
+use Rattle.state.specs.View.{tag_at, view, neat_gate, represents}
 use Rattle.state.specs.Parts.{with_coordination, with_gate}
 use Rattle.state.proofs.Round.{number-phase, phase-below}
 use Rattle.state.proofs.Kept.{least_kept, kept-neat}
 use Rattle.state.proofs.Rows.{all-rows, least-rows, neat-cell}
 use Rattle.state.proofs.Neat.{coordination-parts, coordination-whole, gate-parts, gate-whole, neat-coordination, neat-horizon}
-use Rattle.publication.specs.Announce.{Announces, Has, announcement, dropped_if, dropped_of}
+use Rattle.publication.specs.Announce.{Announces, announcement, dropped_if, dropped_of}
 
 -- ---- the phase by its number
 
@@ -63,23 +63,19 @@ dropped-neat true g h =
     })
 
 module _ (s : Held) (whole : T (represents s)) where
-  announced-step : (e : ℕ) (resume : Bool) (t : Tag) → optional_of t ≡ least_candidate (view s)
+  announced-is : (e : ℕ) (resume : Bool) (t : Tag) → optional_of t ≡ least_candidate (view s)
       → let c = announced s.coordination t s.grant_horizon s.lifecycle in announce e resume (view s) ≡ record { state = view (with_gate (dropped_of s.gate) (with_coordination c s)); actions = announcement e resume c }
   unfolding announce
-  announced-step e resume t h = rw (← h, number-phase, probes) refl
+  announced-is e resume t h = rw (← h, number-phase, probes) refl
 
-  announces-none : (x : Bool) → x ≡ all_of (λ j. get_or s.published j false) 0 s.count → x ≡ false
-      → Announces s (record { announces = false; coordination = s.coordination })
-  announces-none x asked h = record {
-    step = λ e resume. rw (all-rows s (λ p. p.published) ∙ sym asked ∙ h) refl;
-    neat = neat-coordination s whole;
-  }
+  announces-none : (x : Bool) → x ≡ all_of (λ j. get_or s.published j false) 0 s.count → x ≡ false → Announces s None
+  announces-none x asked h = record { step = λ e resume. rw (all-rows s (λ p. p.published) ∙ sym asked ∙ h) refl; neat = tt }
 
   announces-all : (x : Bool) → x ≡ all_of (λ j. get_or s.published j false) 0 s.count → x ≡ true
-      → (t : Tag) → t ≡ cell_of (least_from (λ j. optional_of (tag_in s.seconds s.nanoseconds s.microsteps j)) 0 s.count)
-      → Announces s (record { announces = true; coordination = announced s.coordination t s.grant_horizon s.lifecycle })
+      → (t : Tag) → t ≡ cell_of (least_from (λ j. optional_of (tag_at s j)) 0 s.count)
+      → Announces s (Some (announced s.coordination t s.grant_horizon s.lifecycle))
   announces-all x asked h t least = record {
-    step = λ e resume. rw (all-rows s (λ p. p.published) ∙ sym asked ∙ h) (announced-step e resume t held);
+    step = λ e resume. rw (all-rows s (λ p. p.published) ∙ sym asked ∙ h) (announced-is e resume t held);
     neat = coordination-whole (announced s.coordination t s.grant_horizon s.lifecycle) (record {
       phase = phase-below (idle_phase (optional_of t) (policy_of s.lifecycle));
       authorization = (coordination-parts s.coordination (neat-coordination s whole)).authorization;
@@ -88,25 +84,23 @@ module _ (s : Held) (whole : T (represents s)) where
   }
     where
       cells : Option Tag
-      cells = least_from (λ j. optional_of (tag_in s.seconds s.nanoseconds s.microsteps j)) 0 s.count
+      cells = least_from (λ j. optional_of (tag_at s j)) 0 s.count
 
       keeps : optional_of (cell_of cells) ≡ cells
-      keeps = least_kept (λ j. tag_in s.seconds s.nanoseconds s.microsteps j) 0 s.count
+      keeps = least_kept (λ j. tag_at s j) 0 s.count
 
       held : optional_of t ≡ least_candidate (view s)
       held = ap optional_of least ∙ keeps ∙ sym (least-rows s (λ p. p.candidate))
 
--- ---- in every state that has what was given
+-- ---- in every state beside the one that was lent
 
-module _ (ps : List Bool) (ss ns : List ℤ) (ms : List ℕ) (n : ℕ) (c : Coordination) (h : Tag) (l : ℕ) (x : Bool)
-    (asked : x ≡ all_of (λ j. get_or ps j false) 0 n) where
-  pub announces-not : x ≡ false → (s : Held) → T (represents s) → Has s ps ss ns ms n c h l → Announces s (record { announces = false; coordination = c })
-  announces-not q s whole has =
-      rw (← has.coordination) (announces-none s whole x (rw (has.published, has.count) asked) q)
+module _ (t : Held) (c : Coordination) (x : Bool) (asked : x ≡ all_of (λ j. get_or t.published j false) 0 t.count) where
+  pub announces-not : x ≡ false → (s : Held) → T (represents s) → Beside s t → s.coordination ≡ c → Announces s None
+  announces-not q s whole b k = announces-none s whole x (rw (b.published, b.count) asked) q
 
-  pub announces-now : x ≡ true → (t : Tag) → t ≡ cell_of (least_from (λ j. optional_of (tag_in ss ns ms j)) 0 n)
-      → (p : ℕ) → p ≡ phase_number (idle_phase (optional_of t) (policy_of l)) → (s : Held) → T (represents s) → Has s ps ss ns ms n c h l
-      → Announces s (record { announces = true; coordination = with_pending c p t h })
-  announces-now q t least p phase s whole has =
-      rw (phase, ← has.coordination, ← has.horizon, ← has.lifecycle)
-      (announces-all s whole x (rw (has.published, has.count) asked) q t (rw (has.seconds, has.nanoseconds, has.microsteps, has.count) least))
+  pub announces-now : x ≡ true → (l : Tag) → l ≡ cell_of (least_from (λ j. optional_of (tag_at t j)) 0 t.count)
+      → (p : ℕ) → p ≡ phase_number (idle_phase (optional_of l) (policy_of t.lifecycle)) → (s : Held) → T (represents s) → Beside s t → s.coordination ≡ c
+      → Announces s (Some (with_pending c p l t.grant_horizon))
+  announces-now q l least p phase s whole b k =
+      rw (phase, ← k, ← b.grant_horizon, ← b.lifecycle)
+      (announces-all s whole x (rw (b.published, b.count) asked) q l (rw (b.seconds, b.nanoseconds, b.microsteps, b.count) least))

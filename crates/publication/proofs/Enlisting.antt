@@ -19,6 +19,7 @@ use Rattle.state.specs.declared.Coordination.{Coordination}
 use Rattle.state.specs.declared.Completion.{Completion}
 use Rattle.state.specs.declared.Parts.{Parts}
 use Rattle.state.specs.declared.Decided.{Decided}
+use Rattle.state.specs.declared.Notice.{Notice}
 use Rattle.state.specs.declared.Next.TheVariants.{Announces}
 use Rattle.state.specs.Cells.{absent, cell_of, is_absent, is_neat, optional_of, phase_of}
 use Rattle.state.specs.View.{neat_completion, neat_coordination, row_at, rows_of, tag_at, view}
@@ -111,8 +112,8 @@ changed m p = record {
   next = Announces (not (eqb p.coordination.phase 0));
 }
 
--- k is the kind of what the parts repeat
-abbrev Repeats : ℕ → ℕ → Parts → Type 0
+-- k is what the parts repeat
+abbrev Repeats : Option Notice → ℕ → Parts → Type 0
 Repeats k e p = repeated (phase_of p.coordination.phase) p.coordination.revision ≡ said_of k e p.coordination.revision
 
 enlist-is : (e : ℕ) (m : Option Tag) (resume : Bool) (v : State) → enlist e m resume v ≡ conclusion e (Announces resume) (only e (store m) v)
@@ -120,7 +121,7 @@ unfolding enlist conclusion
 enlist-is e m resume v = refl
 
 module _ (m : Option Tag) (e : ℕ) (s : Held) (i : ℕ) (g : Good s) (d : Seated s e i) where
-  stopped-step : s.coordination.phase ≡ 6 → Goes (publish_of e m) e (saying 0) s i
+  stopped-step : s.coordination.phase ≡ 6 → Goes (publish_of e m) e (saying None) s i
   unfolding publish_of
   stopped-step h = goes-nothing (publish_of e m) e s i g d (rw (stopped-is s g.neat ∙ ap (λ n. eqb n 6) h) refl)
 
@@ -132,7 +133,7 @@ module _ (m : Option Tag) (e : ℕ) (s : Held) (i : ℕ) (g : Good s) (d : Seate
   asked-same : same_optional (optional_of (tag_at s i)) m ≡ alike m (parts_of s i)
   asked-same = same-cell (tag_at s i) m (place-parts s i (neat-place s g.neat i d.within)).candidate proper
 
-  again-step : alike m (parts_of s i) ≡ true → (parts_of s i).row.published ≡ true → (k : ℕ) → Repeats k e (parts_of s i) → Goes (publish_of e m) e (saying k) s i
+  again-step : alike m (parts_of s i) ≡ true → (parts_of s i).row.published ≡ true → (k : Option Notice) → Repeats k e (parts_of s i) → Goes (publish_of e m) e (saying k) s i
   unfolding publish_by conclusion
   again-step same was k says =
       running-step m e s i g d runs ∙ repeats ∙ ap (λ (z : State). emit (said_of k e z.revision) z) (sym (view-kept s e i g d))
@@ -160,14 +161,14 @@ module _ (m : Option Tag) (e : ℕ) (s : Held) (i : ℕ) (g : Good s) (d : Seate
 
 -- ---- each return, of the parts
 
-pub publish-stopped : (p : Parts) (m : Option Tag) → p.coordination.phase ≡ 6 → (e : ℕ) → T (proper_if_present m) → Decides (publish_of e m) e p (saying 0 p)
-publish-stopped p m h e proper = decides-by (publish_of e m) e (λ z. z.coordination.phase ≡ 6) (saying 0) (stopped-step m e) p h
+pub publish-stopped : (p : Parts) (m : Option Tag) → p.coordination.phase ≡ 6 → (e : ℕ) → T (proper_if_present m) → Decides (publish_of e m) e p (saying None p)
+publish-stopped p m h e proper = decides-by (publish_of e m) e (λ z. z.coordination.phase ≡ 6) (saying None) (stopped-step m e) p h
 
 module _ (p : Parts) (m : Option Tag) (t : Tag) (x : Bool) (runs : Runs p) (cell : t ≡ cell_of m) (asked : x ≡ (p.row.candidate ≡ₜ t)) where
   made : (b : Bool) → x ≡ b → alike m p ≡ b
   made b h = rw (← cell) (sym asked ∙ h)
 
-  pub publish-again : x ≡ true → p.row.published ≡ true → (k : ℕ) → ((e v : ℕ) → repeated (phase_of p.coordination.phase) v ≡ said_of k e v)
+  pub publish-again : x ≡ true → p.row.published ≡ true → (k : Option Notice) → ((e v : ℕ) → repeated (phase_of p.coordination.phase) v ≡ said_of k e v)
       → (e : ℕ) → T (proper_if_present m) → Decides (publish_of e m) e p (saying k p)
   publish-again same was k says e proper =
       decides-by (publish_of e m) e (λ z. Runs z × (alike m z ≡ true) × (z.row.published ≡ true) × Repeats k e z) (saying k)

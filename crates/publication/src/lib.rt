@@ -1,8 +1,8 @@
-// Publication (document 01, "Revise", "Active" and "Publish"; state.rs: revise_publication, activate, publish). The columns are lent and small parts go
+// Publication (document 01, "Revise", "Active" and "Publish"; state.rs: revise_publication, activate, publish). The state is lent and small parts go
 // in and out by value. Nothing is refused here.
 #![tactic(auto)]
 
-ghost use Rattle.std.specs.Prelude.{◌≡◌, false, ℕ, ◌≤◌, T};
+ghost use Rattle.std.specs.Prelude.{◌≡◌, false, ℕ, ◌≤◌, T, Option};
 ghost use Rattle.tags.specs.Tags.{proper_if_present};
 ghost use Rattle.records.specs.Numbers.{phase_number};
 ghost use Rattle.rules.specs.Publication.{activate_of, publish_of, repeated, idle_phase};
@@ -10,19 +10,15 @@ ghost use Rattle.state.specs.declared.FederateCoordinationState.{FederateCoordin
 ghost use Rattle.state.specs.declared.Next.TheVariants.{Says};
 ghost use Rattle.state.specs.Cells.{optional_of, phase_of, policy_of};
 ghost use Rattle.state.specs.View.{represents};
+ghost use Rattle.state.specs.Beside.{Beside};
 ghost use Rattle.state.specs.Decides.{Decides, neat_parts, said_of};
-ghost use Rattle.publication.specs.Announce.{dropped_of, Has, Announces};
+ghost use Rattle.publication.specs.Announce.{dropped_of, Announces};
 ghost use Rattle.publication.specs.Revise.{revised_of, unprobed_of};
 
-use state::{ABSENT, Completion, Coordination, Decided, Gate, Next, Parts};
+use state::{
+    ABSENT, Completion, Coordination, Decided, FederateCoordinationState, Gate, Next, Notice, Parts,
+};
 use tags::Tag;
-
-#[derive(Clone, Copy)]
-pub struct Announced {
-    // Whether all are published, so that Publish is emitted and the stored acquisition dropped.
-    pub announces: bool,
-    pub coordination: Coordination,
-}
 
 // Revise, the observations aside.
 pub fn revised(c: Coordination) -> Coordination
@@ -45,20 +41,20 @@ pub fn revised(c: Coordination) -> Coordination
 pub fn unprobed(k: Completion) -> Completion
     ensures { result ≡ unprobed_of k }
 {
-    let mut r = k;
-    let none = ABSENT;
-    r.completion_probe = none;
-    r
+    Completion {
+        completion_probe: ABSENT,
+        ..k
+    }
 }
 
-// Nothing but the action of this kind, or none if 0.
-pub fn says(parts: Parts, kind: u8) -> Decided
-    ensures { result ≡ record { parts = parts; forgets = false; next = Says kind } }
+// Nothing but this action, if any.
+pub fn says(parts: Parts, notice: Option<Notice>) -> Decided
+    ensures { result ≡ record { parts = parts; forgets = false; next = Says notice } }
 {
     Decided {
         parts,
         forgets: false,
-        next: Next::Says(kind),
+        next: Next::Says(notice),
     }
 }
 
@@ -68,37 +64,30 @@ pub fn activate(parts: Parts) -> Decided
     ensures neat { T (neat_parts parts) → T (neat_parts result.parts) }
 {
     let c = parts.coordination;
-    let k = parts.completion;
-    let mut row = parts.row;
     let mut next = parts;
-    row.published = false;
-    next.row = row;
-    next.completion = unprobed(k);
+    next.row.published = false;
+    next.completion = unprobed(parts.completion);
     if c.phase == 6 {
-        return says(next, 0);
+        return says(next, None);
     }
     next.coordination = revised(c);
     Decided {
         parts: next,
         forgets: true,
-        next: Next::Says(9),
+        next: Next::Says(Some(Notice::Resume)),
     }
 }
 
-// The kind number of what an unchanged candidate repeats in a phase, or 0.
-fn repeated_kind(phase: u8) -> u8
+// What an unchanged candidate repeats in a phase, if anything.
+fn repeated(phase: u8) -> Option<Notice>
     ensures { (e v : ℕ) → repeated (phase_of phase) v ≡ said_of result e v }
 {
-    if phase == 1 {
-        return 6;
+    match phase {
+        1 => Some(Notice::Probe),
+        2 => Some(Notice::Park),
+        3 => Some(Notice::Recheck),
+        _ => None,
     }
-    if phase == 2 {
-        return 7;
-    }
-    if phase == 3 {
-        return 8;
-    }
-    0
 }
 
 // Publish's first half.
@@ -108,20 +97,15 @@ pub fn publish(parts: Parts, next_event: Option<Tag>) -> Decided
 {
     let c = parts.coordination;
     if c.phase == 6 {
-        return says(parts, 0);
+        return says(parts, None);
     }
-    let mut row = parts.row;
-    let mut next = parts;
-    let was = row.candidate;
-    let listed = row.published;
     let candidate = state::cell_of(next_event);
-    row.published = true;
-    row.candidate = candidate;
-    next.row = row;
-    if tags::same_tag(was, candidate) {
-        if listed {
-            let kind = repeated_kind(c.phase);
-            return says(parts, kind);
+    let mut next = parts;
+    next.row.published = true;
+    next.row.candidate = candidate;
+    if tags::same_tag(parts.row.candidate, candidate) {
+        if parts.row.published {
+            return says(parts, repeated(c.phase));
         }
         return Decided {
             parts: next,
@@ -129,14 +113,12 @@ pub fn publish(parts: Parts, next_event: Option<Tag>) -> Decided
             next: Next::Announces(false),
         };
     }
-    let k = parts.completion;
-    let resumes = c.phase != 0;
     next.coordination = revised(c);
-    next.completion = unprobed(k);
+    next.completion = unprobed(parts.completion);
     Decided {
         parts: next,
         forgets: true,
-        next: Next::Announces(resumes),
+        next: Next::Announces(c.phase != 0),
     }
 }
 
@@ -157,42 +139,31 @@ fn idle_phase(next_event: Tag, lifecycle: u8) -> u8
 pub fn dropped(g: Gate) -> Gate
     ensures { result ≡ dropped_of g }
 {
-    let mut r = g;
-    r.stored_revision = 0;
-    let none = ABSENT;
-    r.stored_granted = none;
-    r
+    Gate {
+        stored_revision: 0,
+        stored_granted: ABSENT,
+        ..g
+    }
 }
 
-// Publish's second half.
-pub fn announce<'a>(
-    published: &'a [bool; 32],
-    seconds: &'a [i64; 96],
-    nanoseconds: &'a [i32; 96],
-    microsteps: &'a [u64; 96],
-    count: usize,
+// Publish's second half: the coordination with the publication pending, or none unless all are published.
+pub fn announce(
+    state: &FederateCoordinationState,
     coordination: Coordination,
-    horizon: Tag,
-    lifecycle: u8,
-) -> Announced
-    requires { count ≤ 32 }
-    ensures { (s : Held) → T (represents s) → Has s published.now seconds.now nanoseconds.now microsteps.now count coordination horizon lifecycle → Announces s result }
+) -> Option<Coordination>
+    requires { state.now.count ≤ 32 }
+    ensures { (s : Held) → T (represents s) → Beside s state.now → s.coordination ≡ coordination → Announces s result }
 {
-    if !table::all_set(published, count) {
-        return Announced {
-            announces: false,
-            coordination,
-        };
+    if !table::all_published(state) {
+        return None;
     }
-    let least = table::least_candidate(seconds, nanoseconds, microsteps, count);
-    let mut next = coordination;
-    next.phase = idle_phase(least, lifecycle);
-    next.pending = true;
-    next.pending_revision = coordination.revision;
-    next.pending_next_event = least;
-    next.pending_grant_horizon = horizon;
-    Announced {
-        announces: true,
-        coordination: next,
-    }
+    let least = table::least_candidate(state);
+    Some(Coordination {
+        phase: idle_phase(least, state.lifecycle),
+        pending: true,
+        pending_revision: coordination.revision,
+        pending_next_event: least,
+        pending_grant_horizon: state.grant_horizon,
+        ..coordination
+    })
 }

@@ -2,12 +2,10 @@
 use Rattle.publication.proofs.Announcing.{announces-not, announces-now}
 use Rattle.publication.proofs.announce.Goals as goal
 
-pub returns-then-not-all_set : goal.returns-then-not-all_set
-returns-then-not-all_set c = let a = c.args in
-    announces-not a.published.now a.seconds.now a.nanoseconds.now a.microsteps.now a.count a.coordination
-    a.horizon a.lifecycle _ c.all_set.ensures c.if-not-all_set.true
+pub returns-then-not-all_published : goal.returns-then-not-all_published
+returns-then-not-all_published c = announces-not c.args.state.now c.args.coordination _ c.all_published.ensures c.if-not-all_published.true
 
 pub returns : goal.returns
-returns c = let a = c.args in
-    announces-now a.published.now a.seconds.now a.nanoseconds.now a.microsteps.now a.count a.coordination
-    a.horizon a.lifecycle _ c.all_set.ensures c.if-not-all_set.false _ c.least_candidate-least.ensures _ c.idle_phase.ensures
+returns c =
+    announces-now c.args.state.now c.args.coordination _ c.all_published.ensures c.if-not-all_published.false _ c.least_candidate-least.ensures
+    _ c.idle_phase.ensures

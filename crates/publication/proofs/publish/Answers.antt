@@ -7,12 +7,12 @@ pub returns-then-c-eq6 : goal.returns-then-c-eq6
 returns-then-c-eq6 c = let a = c.args in
     rw c.says.ensures (record { step = publish-stopped a.parts a.next_event c.if-c-eq6.true; neat = λ proper h. h })
 
-pub returns-then-listed : goal.returns-then-listed
-returns-then-listed c = let a = c.args in
+pub returns-then-parts : goal.returns-then-parts
+returns-then-parts c = let a = c.args in
     let runs = c.if-c-eq6.false in
-    rw c.says-then-listed.ensures (record {
+    rw c.says-then-parts.ensures (record {
       step = publish-again a.parts a.next_event _ _ runs c.cell_of-candidate.ensures c.same_tag.ensures c.if-same_tag.true
-          c.if-listed.true _ c.repeated_kind-kind.ensures;
+          c.if-parts.true _ c.repeated.ensures;
       neat = λ proper h. h;
     })
 
@@ -20,7 +20,7 @@ pub returns-then-same_tag : goal.returns-then-same_tag
 returns-then-same_tag c = let a = c.args in
     let runs = c.if-c-eq6.false in
     let cell = c.cell_of-candidate.ensures in record {
-      step = publish-first a.parts a.next_event _ _ runs cell c.same_tag.ensures c.if-same_tag.true c.if-listed.false;
+      step = publish-first a.parts a.next_event _ _ runs cell c.same_tag.ensures c.if-same_tag.true c.if-parts.false;
       neat = neat-first a.parts a.next_event _ cell;
     }
 
