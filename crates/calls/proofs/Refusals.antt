@@ -1,6 +1,6 @@
 -- The refusals of a call on the state held, one law for each link of the chain 27, 8, 7, 3, 4, 9, and what a refused and a taken call promise. By the
 -- definitions, with each test's value put in. Assumes nothing.
-use Rattle.std.specs.Prelude.{None, Option}
+use Rattle.std.specs.Prelude.{None, Option, Some}
 use mathlib.Core.Path.{◌≡◌, refl, ap}
 use mathlib.Core.Bool.{Bool, true, false, not, cond, ◌&&◌}
 use Prim.Native.Nat.{ℕ, ◌+◌, ◌*◌, ◌<◌}
@@ -10,6 +10,9 @@ use lib.Dec.{eqb, ltb}
 use lib.ListN.{length}
 use Rattle.records.specs.Numbers.{refusal_number}
 use Rattle.records.specs.declared.Refusal.{Refusal}
+use Rattle.records.specs.declared.Refusal.TheVariants.{NoParticipants, DuplicateEnclave, UnknownEnclave, InvalidObservationTransition, TooManyParticipants, IndexTooLarge, ImproperTag}
+use Rattle.records.specs.declared.Refusal.TheVariants.{RoomTooSmall, GenerationSpent, DelayOutOfRange, ScriptOutOfForm, ScriptTooLong, UnsoundState, NoActionRecord}
+use Rattle.std.specs.Option.{is_some}
 use Rattle.rules.specs.Model.{Given}
 use Rattle.rules.specs.Calls.{facts, own_step, take_step, is_sound, room_for, all_proper, knows_all, is_spent, refusal, refused_answer}
 use Rattle.state.specs.declared.FederateCoordinationState.{FederateCoordinationState as Held}
@@ -76,6 +79,32 @@ module _ (g : Given) (s : Held) (p : Passes s) where
 
 pub room_of : (s : Held) → room_for (view s) ≡ 56 * (s.count + 2)
 room_of s = ap (λ n. 56 * (n + 2)) (length-rows s)
+
+-- ---- whether there is one
+
+above : (r : Refusal) → 0 < refusal_number (Some r)
+above NoParticipants = omega arith
+above DuplicateEnclave = omega arith
+above UnknownEnclave = omega arith
+above InvalidObservationTransition = omega arith
+above TooManyParticipants = omega arith
+above IndexTooLarge = omega arith
+above ImproperTag = omega arith
+above RoomTooSmall = omega arith
+above GenerationSpent = omega arith
+above DelayOutOfRange = omega arith
+above ScriptOutOfForm = omega arith
+above ScriptTooLong = omega arith
+above UnsoundState = omega arith
+above NoActionRecord = omega arith
+
+pub refuses : (n : Option Refusal) → is_some n ≡ true → refusal_number n ≡ 0 → ⊥
+refuses None h e = let z : ◌≡◌ {A = ℕ} 0 1 = cc in omega arith
+refuses (Some r) h e = let l = above r in omega arith
+
+pub refuses-none : (n : Option Refusal) → is_some n ≡ false → n ≡ None
+refuses-none None h = refl
+refuses-none (Some r) h = absurd (let z : ◌≡◌ {A = ℕ} 0 1 = cc in omega arith)
 
 -- ---- what is promised
 
