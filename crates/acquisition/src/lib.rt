@@ -25,53 +25,31 @@ fn holds(cell: Tag, m: Option<Tag>) -> bool
     tags::same_optional(state::optional_of(cell), m)
 }
 
-fn is_pending(c: Coordination, p: FederatePublication) -> bool
-    ensures { result ≡ same_publication (pending_of c) p.revision p.next_event p.grant_horizon }
+fn is_pending(c: &Coordination, p: &FederatePublication) -> bool
+    ensures { result ≡ same_publication (pending_of c.now) p.now.revision p.now.next_event p.now.grant_horizon }
 {
-    if !c.pending {
-        return false;
-    }
-    if c.pending_revision != p.revision {
-        return false;
-    }
-    let pending_event = c.pending_next_event;
-    let pending_horizon = c.pending_grant_horizon;
-    let next_event = p.next_event;
-    let grant_horizon = p.grant_horizon;
-    if !holds(pending_event, next_event) {
-        return false;
-    }
-    holds(pending_horizon, grant_horizon)
+    c.pending
+        && c.pending_revision == p.revision
+        && holds(c.pending_next_event, p.next_event)
+        && holds(c.pending_grant_horizon, p.grant_horizon)
 }
 
 fn is_reached(horizon: Tag, next_event: Option<Tag>) -> bool
     ensures { result ≡ (is_present (optional_of horizon) && is_at_or_below next_event horizon) }
 {
-    if state::is_absent(horizon) {
-        return false;
-    }
-    tags::is_at_or_below(next_event, horizon)
+    !state::is_absent(horizon) && tags::is_at_or_below(next_event, horizon)
 }
 
-fn is_due(c: Coordination, horizon: Tag, p: FederatePublication) -> bool
-    ensures { result ≡ (same_publication (pending_of c) p.revision p.next_event p.grant_horizon && (is_present (optional_of horizon) && is_at_or_below p.next_event horizon)) }
+fn is_due(state: &FederateCoordinationState, p: &FederatePublication) -> bool
+    ensures { result ≡ (same_publication (pending_of state.now.coordination) p.now.revision p.now.next_event p.now.grant_horizon && (is_present (optional_of state.now.grant_horizon) && is_at_or_below p.now.next_event state.now.grant_horizon)) }
 {
-    let next_event = p.next_event;
-    if is_pending(c, p) {
-        return is_reached(horizon, next_event);
-    }
-    false
+    is_pending(&state.coordination, p) && is_reached(state.grant_horizon, p.next_event)
 }
 
-fn has_proper_tags(p: FederatePublication) -> bool
-    ensures { result ≡ (proper_if_present p.next_event && proper_if_present p.grant_horizon) }
+fn has_proper_tags(p: &FederatePublication) -> bool
+    ensures { result ≡ (proper_if_present p.now.next_event && proper_if_present p.now.grant_horizon) }
 {
-    let next_event = p.next_event;
-    let grant_horizon = p.grant_horizon;
-    if tags::proper_if_present(next_event) {
-        return tags::proper_if_present(grant_horizon);
-    }
-    false
+    tags::proper_if_present(p.next_event) && tags::proper_if_present(p.grant_horizon)
 }
 
 // An acquisition: the granted tag advances the horizon and grants the published candidates that it reaches.
@@ -83,84 +61,24 @@ pub fn handle_acquisition(
     ensures promised { Promised (lent (length room.old) (acquire acquisition.revision acquisition.granted)) state result }
     ensures bytes { room.new ≡ put_at room.old 0 (records_of (actions_of (lent (length room.old) (acquire acquisition.revision acquisition.granted)) state)) }
 {
-    let count = state.count;
-    let completion = state.completion;
-    // The small parts are tested where they are at hand, since a test that takes them by value costs their copies.
-    let both = soundness::all_hold(
-        soundness::flags_are_sound(
-            state.coordination.phase,
-            state.coordination.authorized,
-            state.coordination.idle_authorization,
-        ),
-        soundness::publication_is_sound(
-            state.coordination.pending,
-            state.coordination.pending_revision,
-            state.coordination.pending_next_event,
-            state.coordination.pending_grant_horizon,
-        ),
-        soundness::are_cells(completion.completed_frontier, completion.completion_probe),
-        soundness::inputs_are_sound(completion.first_input, completion.last_input),
-    );
-    let small = soundness::all_hold(
-        both,
-        soundness::are_cells(state.gate.granted, state.gate.input_horizon),
-        soundness::acquisition_is_sound(state.gate.stored_revision, state.gate.stored_granted),
-        soundness::rest_is_sound(
-            state.grant_horizon,
-            state.failed,
-            state.first_failure,
-            state.lifecycle,
-        ),
-    );
-    if !soundness::is_sound_with(&state, small) {
+    if !soundness::is_sound(&state) {
         return calls::with_reply(state, Some(Refusal::UnsoundState), None, 0);
     }
     let proper = tags::is_proper(acquisition.granted);
-    let refusal = calls::room_first(room.len(), count, calls::tag_first(proper, true));
-    if records::refusal_number(refusal) != 0 {
+    let refusal = calls::room_first(room.len(), state.count, calls::tag_first(proper, true));
+    if refusal.is_some() {
         return calls::with_reply(state, refusal, None, 0);
     }
-    let held_coordination = state::coordination_by_fields(state.coordination);
-    let held_gate = state::gate_by_fields(state.gate);
-    let acquired = grants::acquire(
-        held_coordination,
-        held_gate,
-        state.grant_horizon,
-        acquisition.revision,
-        acquisition.granted,
-    );
-    let opened = acquired.gate;
-    state.gate = opened;
-    if !acquired.grants {
+    let acquired = grants::acquire(&state, acquisition);
+    state.gate = acquired.gate;
+    let Some(granted) = acquired.granted else {
         return calls::with_reply(state, None, None, 0);
-    }
-    let settled = acquired.coordination;
-    let further = acquired.horizon;
-    state.coordination = settled;
-    state.grant_horizon = further;
-    let reach = acquired.tag;
-    let advanced = emission::add_horizon(room, further);
-    let written = grants::add_grants(
-        room,
-        advanced,
-        &state.enclaves,
-        &state.published,
-        &state.seconds,
-        &state.nanoseconds,
-        &state.microsteps,
-        count,
-        reach,
-    );
-    let published = state.published;
-    let left = grants::unpublished(
-        published,
-        &state.seconds,
-        &state.nanoseconds,
-        &state.microsteps,
-        count,
-        reach,
-    );
-    state.published = left;
+    };
+    let advanced = emission::add_horizon(room, granted.horizon);
+    let written = grants::add_grants(room, advanced, &state, granted.tag);
+    state.published = grants::unpublished(&state, granted.tag);
+    state.coordination = granted.coordination;
+    state.grant_horizon = granted.horizon;
     calls::with_reply(state, None, None, written)
 }
 
@@ -168,10 +86,11 @@ pub fn handle_acquisition(
 fn unless_refused(state: FederateCoordinationState, room: usize, later: Option<Refusal>) -> Called
     ensures { result ≡ unless_refused state room later }
 {
-    if !soundness::is_sound(&state) {
-        return calls::with_reply(state, Some(Refusal::UnsoundState), None, 0);
-    }
-    let refusal = calls::room_first(room, state.count, later);
+    let refusal = if soundness::is_sound(&state) {
+        calls::room_first(room, state.count, later)
+    } else {
+        Some(Refusal::UnsoundState)
+    };
     calls::with_reply(state, refusal, None, 0)
 }
 
@@ -184,17 +103,15 @@ pub fn handle_publication_sent(
     ensures promised { Promised (lent (length room.old) (sent publication.revision publication.next_event publication.grant_horizon)) state result }
     ensures bytes { room.new ≡ put_at room.old 0 (records_of (actions_of (lent (length room.old) (sent publication.revision publication.next_event publication.grant_horizon)) state)) }
 {
-    if !has_proper_tags(publication) {
+    if !has_proper_tags(&publication) {
         return unless_refused(state, room.len(), Some(Refusal::ImproperTag));
     }
-    let coordination = state.coordination;
-    let horizon = state.grant_horizon;
-    if !is_due(coordination, horizon, publication) {
+    if !is_due(&state, &publication) {
         return unless_refused(state, room.len(), None);
     }
     let acquisition = FederateAcquisition {
         revision: publication.revision,
-        granted: horizon,
+        granted: state.grant_horizon,
     };
     handle_acquisition(state, acquisition, room)
 }
@@ -204,13 +121,12 @@ pub fn input_progress(state: FederateCoordinationState, room: &mut [u8]) -> Call
     ensures promised { Promised (lent (length room.old) progress) state result }
     ensures bytes { room.new ≡ put_at room.old 0 (records_of (actions_of (lent (length room.old) progress) state)) }
 {
-    let gate = state.gate;
-    let granted = gate.stored_granted;
+    let granted = state.gate.stored_granted;
     if state::is_absent(granted) {
         return unless_refused(state, room.len(), None);
     }
     let acquisition = FederateAcquisition {
-        revision: gate.stored_revision,
+        revision: state.gate.stored_revision,
         granted,
     };
     handle_acquisition(state, acquisition, room)

@@ -6,4 +6,4 @@ use Rattle.calls.proofs.Standing.{is-so}
 use Rattle.acquisition.proofs.unless_refused.Goals as goal
 
 pub room_first-refusal-requires : goal.room_first-refusal-requires
-room_first-refusal-requires c = let s = c.args.state in (count-bounds s (is-so (passes s (sym c.is_sound.ensures ∙ c.if-not-is_sound.false)).sound)).1
+room_first-refusal-requires c = let s = c.args.state in (count-bounds s (is-so (passes s (sym c.is_sound.ensures ∙ c.if-is_sound.true)).sound)).1

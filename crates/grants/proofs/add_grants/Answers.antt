@@ -1,20 +1,27 @@
--- `grants::add_grants` adds `grants_of`. The invariant: the Grants of the first i places have been added, at most one for each. Assumes nothing.
-use mathlib.Core.Path.{refl, ◌∙◌}
+-- `grants::add_grants` adds `grants_of`. The invariant: the Grants of the first places have been added, at most one for each. Assumes nothing.
+use mathlib.Core.Path.{sym, ◌∙◌}
 use native.Mathlib.Omega.{arith}
-use Rattle.emission.proofs.Adding.{add_start, add_turn}
-use Rattle.grants.specs.Acquire.{grantable_at, grant_at}
+use Rattle.emission.proofs.Adding.{add_start}
+use Rattle.grants.proofs.Turns.{granted-turn, passed-turn}
 use Rattle.grants.proofs.add_grants.Goals as goal
+use Rattle.grants.proofs.add_grants.Goals.{then-is_grantable, else-is_grantable}
 
-pub loop-i-init : goal.loop-i-init
-loop-i-init c = (omega arith, omega arith, refl, add_start _ _ _ _)
+pub loop-place-init : goal.loop-place-init
+loop-place-init c = record { few = omega arith; adds = add_start _ _ _ _ }
 
-pub loop-i-preserved : goal.loop-i-preserved
-loop-i-preserved c = let a = c.args in
-    let e = c.tag_at-candidate.ensures in
-    let q = grantable_at a.published.now a.seconds.now a.nanoseconds.now a.microsteps.now a.tag in
-    let f = grant_at a.enclaves.now a.seconds.now a.nanoseconds.now a.microsteps.now a.tag in (
-      omega arith,
-      omega (arith, c.add_grant-place.ensures.few),
-      c.add_grant-place.auto.room ∙ c.loop-i.invariant.2,
-      add_turn q f c.loop-i.i _ _ _ _ _ _ c.loop-i.invariant.3 (rw e at c.add_grant-place.ensures.adds),
-    )
+pub loop-place-preserved : goal.loop-place-preserved
+loop-place-preserved c =
+    let a = c.args in
+    let l = c.loop-place in
+    let is = sym c.is_grantable.ensures in
+    elim c.if-is_grantable.branch [
+      | then-is_grantable w ↦ record {
+        few = omega (arith, w.add_grant-total.ensures.few);
+        adds = rw (w.room-is, w.total-is) (granted-turn a.state.now a.tag l.place _ _ _ _ l.invariant.adds (is ∙ w.if-is_grantable.true) _ _
+            (rw w.tag_at-candidate.ensures at w.add_grant-total.ensures.adds));
+      }
+      | else-is_grantable w ↦ record {
+        few = omega arith;
+        adds = rw (w.room-is, w.total-is) (passed-turn a.state.now a.tag l.place _ _ _ _ l.invariant.adds (is ∙ w.if-is_grantable.false));
+      }
+    ]
