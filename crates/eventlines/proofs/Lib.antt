@@ -1,5 +1,4 @@
-pub mod Fields
-pub mod Numbers
+pub mod Between
 pub mod Names
 pub mod Listed
 pub mod Lines

@@ -19,9 +19,9 @@ use Rattle.events.specs.declared.Event.TheVariants as event
 use Rattle.eventlines.specs.declared.Named.{Named}
 use Rattle.events.specs.Events.{word_of, wide_of, enclave_of, mark_of, observation_of, event_number, both, three, words, listed, input_of, by_fields, event_of}
 use Rattle.events.specs.Events.{without_fields, with_one_field, with_two_fields, with_three_fields}
-use Rattle.events.specs.Told.{told_event, event_for, inputs, named_in, padded, enclaves_of, is_given, fields_from}
+use Rattle.events.specs.Told.{call_told, event_telling, told_event, event_for, inputs, named_in, padded, enclaves_of, fields_from}
 use Rattle.eventlines.specs.Named.{named_of}
-use Rattle.eventlines.proofs.Fields.{fields-first}
+use Rattle.eventlines.proofs.Between.{fields-first}
 use Rattle.eventlines.proofs.Listed.{take-padded}
 
 -- ---- an event other than `input` names no enclaves
@@ -95,31 +95,31 @@ input-names : (fs : List (List ℕ)) → length (named_in (input_of fs)) ≤ 32
 input-names [] = omega arith
 input-names (n ∷ es) = listed-names (number_of 32 n) es (λ k q. number-le 32 n k q)
 
--- ---- the event of an `input`, by what its fields name
+-- ---- the event of an `input`, and its enclaves, by what its fields name
 
-listed-event : (o : Option ℕ) (fs : List (List ℕ))
-    → event_for (listed o fs) ≡ cond (is_given (listed o fs)) (event.Input (length (named_in (listed o fs)))) event.NoEvent
+abbrev pub input_told : Option Named → Option Event
+input_told None = None
+input_told (Some m) = Some (event.Input m.count)
+
+listed-event : (o : Option ℕ) (fs : List (List ℕ)) → input_told (named_of (listed o fs)) ≡ event_for (listed o fs)
 listed-event None fs = refl
 listed-event (Some n) fs = by-test (eqb n (length fs)) (λ e. rw e (by-words (words fs))) (λ e. rw e)
   where
-    by-words : (o : Option (List ℕ)) → event_for (given o input) ≡ cond (is_given (given o input)) (event.Input (length (named_in (given o input)))) event.NoEvent
+    by-words : (o : Option (List ℕ)) → input_told (named_of (given o input)) ≡ event_for (given o input)
     by-words None = refl
     by-words (Some es) = refl
 
-input-event : (fs : List (List ℕ)) → event_for (input_of fs) ≡ cond (is_given (input_of fs)) (event.Input (length (named_in (input_of fs)))) event.NoEvent
+pub input-event : (fs : List (List ℕ)) → input_told (named_of (input_of fs)) ≡ event_for (input_of fs)
 input-event [] = refl
 input-event (n ∷ es) = listed-event (number_of 32 n) es
 
-module _ (fs : List (List ℕ)) (m : Named) (e : m ≡ named_of (input_of fs)) where
-  pub input-good : m.good ≡ true → event.Input m.count ≡ event_for (input_of fs)
-  input-good g =
-      let k : is_given (input_of fs) ≡ true = sym (ap (λ (x : Named). x.good) e) ∙ g in
-      ap (λ (x : Named). event.Input x.count) e ∙ sym (input-event fs ∙ rw k)
+abbrev pub enclaves_in : Option Named → List ℕ
+enclaves_in None = padded 32 []
+enclaves_in (Some m) = m.enclaves
 
-  pub input-bad : m.good ≡ false → event.NoEvent ≡ event_for (input_of fs)
-  input-bad g =
-      let k : is_given (input_of fs) ≡ false = sym (ap (λ (x : Named). x.good) e) ∙ g in
-      sym (input-event fs ∙ rw k)
+pub enclaves-in : (c : Option Call) → enclaves_in (named_of c) ≡ padded 32 (named_in c)
+enclaves-in None = refl
+enclaves-in (Some c) = refl
 
 -- ---- a line by its word's number
 
@@ -152,28 +152,31 @@ line-names line =
     let q : event_of line ≡ by_fields k (fields_from a line) = line-event line a refl k refl ∙ rw e in
     omega (arith, ap length (ap named_in q ∙ (plain-fields k (fields_from a line)).plain)))
 
+told_call : (c : Call) → length (inputs c) ≤ 32 → call_told (event_telling c) (padded 32 (inputs c)) ≡ c
+told_call (active e) h = refl
+told_call (publish e t) h = refl
+told_call (complete e t m) h = refl
+told_call (observed e g) h = refl
+told_call (stopped e) h = refl
+told_call (failed e) h = refl
+told_call (acquire r t) h = refl
+told_call (sent r t u) h = refl
+told_call (observe e r o) h = refl
+told_call (idle r) h = refl
+told_call stop h = refl
+told_call (horizon t) h = refl
+told_call (begin e t) h = refl
+told_call (late e t) h = refl
+told_call (done e t) h = refl
+told_call (input es) h = ap input (take-padded 32 es h)
+told_call progress h = refl
+
 told_back : (c : Option Call) → length (named_in c) ≤ 32 → told_event (event_for c) (padded 32 (named_in c)) ≡ c
 told_back None h = refl
-told_back (Some (active e)) h = refl
-told_back (Some (publish e t)) h = refl
-told_back (Some (complete e t m)) h = refl
-told_back (Some (observed e g)) h = refl
-told_back (Some (stopped e)) h = refl
-told_back (Some (failed e)) h = refl
-told_back (Some (acquire r t)) h = refl
-told_back (Some (sent r t u)) h = refl
-told_back (Some (observe e r o)) h = refl
-told_back (Some (idle r)) h = refl
-told_back (Some stop) h = refl
-told_back (Some (horizon t)) h = refl
-told_back (Some (begin e t)) h = refl
-told_back (Some (late e t)) h = refl
-told_back (Some (done e t)) h = refl
-told_back (Some (input es)) h = ap (λ (l : List ℕ). Some (input l)) (take-padded 32 es h)
-told_back (Some progress) h = refl
+told_back (Some c) h = ap Some (told_call c h)
 
 -- the event that tells a line's call tells it beside the line's enclaves
-pub event-tells : (line : List ℕ) (r : Event) (c : Option Call) → r ≡ event_for c → event_of line ≡ c → told_event r (enclaves_of line) ≡ event_of line
+pub event-tells : (line : List ℕ) (r : Option Event) (c : Option Call) → r ≡ event_for c → event_of line ≡ c → told_event r (enclaves_of line) ≡ event_of line
 unfolding enclaves_of
 event-tells line r c e q =
-    ap (λ (x : Event). told_event x (padded 32 (named_in (event_of line)))) (e ∙ sym (ap event_for q)) ∙ told_back (event_of line) (line-names line)
+    ap (λ (x : Option Event). told_event x (padded 32 (named_in (event_of line)))) (e ∙ sym (ap event_for q)) ∙ told_back (event_of line) (line-names line)

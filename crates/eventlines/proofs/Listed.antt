@@ -3,21 +3,19 @@ use Rattle.std.specs.Prelude.{None, Option, Some}
 use mathlib.Core.Path.{◌≡◌, refl, sym, ap, ◌∙◌}
 use mathlib.Core.Bool.{Bool, true, false, cond}
 use mathlib.Core.List.{List, [], ◌∷◌, ◌++◌, append_assoc, append-nil}
-use Prim.Native.Nat.{ℕ, zero, suc, ◌+◌, ◌-◌, ◌<◌, ◌≤◌}
+use Prim.Native.Nat.{ℕ, zero, suc, ◌+◌, ◌<◌, ◌≤◌}
 use native.Mathlib.Omega.{arith}
 use lib.Dec.{eqb}
-use lib.ListN.{length, take, drop, get_or, get_or-eq_default}
+use lib.ListN.{length, take, get_or, get_or-eq_default}
 use lib.Seq.{ext_get_or, get_or-take, length-take-le}
 use borrow.Author.Tests.{eq-eqb, ne_eqb}
-use Rattle.numerals.specs.Numerals.{given, space}
-use Rattle.numerals.specs.Told.{until}
+use Rattle.numerals.specs.Numerals.{given}
 use Rattle.numerals.proofs.Splits.{by_order}
 use Rattle.rules.specs.Model.{Call, input}
 use Rattle.eventlines.specs.declared.Named.{Named}
 use Rattle.events.specs.Events.{word_of, words, listed}
-use Rattle.events.specs.Told.{fields_from, padded}
+use Rattle.events.specs.Told.{padded}
 use Rattle.eventlines.specs.Named.{named_of}
-use Rattle.eventlines.proofs.Fields.{fields-end, fields-next}
 
 -- what n enclaves are, where k of them are read, and these fields are left
 unfoldable pub listed_from : List ℕ → ℕ → ℕ → List (List ℕ) → Option Call
@@ -37,47 +35,27 @@ unfolding listed_from
 listed_start n fs = let m : 0 + length fs ≡ length fs = omega arith in rw m
 
 module _ (read : List ℕ) (k n : ℕ) where
-  listed_more : (f : List ℕ) (fs : List (List ℕ)) (e : ℕ) → word_of f ≡ Some e → listed_from (read ++ (e ∷ [])) (k + 1) n fs ≡ listed_from read k n (f ∷ fs)
+  pub listed_more : (f : List ℕ) (fs : List (List ℕ)) (e : ℕ) → word_of f ≡ Some e → listed_from (read ++ (e ∷ [])) (k + 1) n fs ≡ listed_from read k n (f ∷ fs)
   unfolding listed_from
   listed_more f fs e h =
       let m : k + 1 + length fs ≡ k + length (f ∷ fs) = omega arith in
       rw (h, m, given-more read e (words fs))
 
-  listed-bad : (f : List ℕ) (fs : List (List ℕ)) → word_of f ≡ None → listed_from read k n (f ∷ fs) ≡ None
+  pub listed-bad : (f : List ℕ) (fs : List (List ℕ)) → word_of f ≡ None → listed_from read k n (f ∷ fs) ≡ None
   unfolding listed_from
   listed-bad f fs h = rw h (cond_same (eqb n (k + length (f ∷ fs))) None)
 
-  listed-over : (f : List ℕ) (fs : List (List ℕ)) → n ≤ k → listed_from read k n (f ∷ fs) ≡ None
+  pub listed-over : (f : List ℕ) (fs : List (List ℕ)) → n ≤ k → listed_from read k n (f ∷ fs) ≡ None
   unfolding listed_from
   listed-over f fs h = rw (ne_eqb n (k + length (f ∷ fs)) (λ e. omega arith))
 
-  listed-short : k < n → listed_from read k n [] ≡ None
+  pub listed-short : k < n → listed_from read k n [] ≡ None
   unfolding listed_from
   listed-short h = rw (ne_eqb n (k + 0) (λ e. omega arith))
 
-  listed-all : k ≡ n → listed_from read k n [] ≡ Some (input read)
+  pub listed-all : k ≡ n → listed_from read k n [] ≡ Some (input read)
   unfolding listed_from
   listed-all h = rw (eq-eqb n (k + 0) (omega arith), append-nil read)
-
--- ---- the same at a place of the line
-
-module _ (read : List ℕ) (k n : ℕ) (line : List ℕ) (at : ℕ) where
-  pub turn-over : at < length line → n ≤ k → None ≡ listed_from read k n (fields_from at line)
-  turn-over h g = rw (fields-next line at (at + 1 + until space (drop (at + 1) line)) h refl) (sym (listed-over read k n _ _ g))
-
-  module _ (end : ℕ) (h : at < length line) (found : end ≡ at + 1 + until space (drop (at + 1) line)) where
-    pub turn-bad : word_of (take (end - (at + 1)) (drop (at + 1) line)) ≡ None → None ≡ listed_from read k n (fields_from at line)
-    turn-bad e = rw (fields-next line at end h found) (sym (listed-bad read k n _ _ e))
-
-    pub turn_more : (e : ℕ) → word_of (take (end - (at + 1)) (drop (at + 1) line)) ≡ Some e
-        → listed_from (read ++ (e ∷ [])) (k + 1) n (fields_from end line) ≡ listed_from read k n (fields_from at line)
-    turn_more e w = rw (fields-next line at end h found) (listed_more read k n _ _ e w)
-
-  pub turn-short : length line ≤ at → k < n → None ≡ listed_from read k n (fields_from at line)
-  turn-short h g = rw (fields-end line at h) (sym (listed-short read k n g))
-
-  pub turn-all : length line ≤ at → k ≡ n → Some (input read) ≡ listed_from read k n (fields_from at line)
-  turn-all h g = rw (fields-end line at h) (sym (listed-all read k n g))
 
 -- ---- the array
 
@@ -115,7 +93,7 @@ module _ (l : List ℕ) (k : ℕ) (long : length l ≡ 32) (fits : k ≤ 32) (ze
           (λ h. get_or-eq_default (take k l) 0 {n = i} (omega (arith, length-take-le k l (omega arith))) ∙ sym (zeros i h))
           (λ h. get_or-take k l i 0 h)
 
-  pub named-is : ◌≡◌ {A = Named} (record { good = true; count = k; enclaves = l }) (named_of (Some (input (take k l))))
+  pub named-is : ◌≡◌ {A = Option Named} (Some (record { count = k; enclaves = l })) (named_of (Some (input (take k l))))
   named-is =
-      ap (λ (j : ℕ). record { good = true; count = j; enclaves = l }) (sym (length-take-le k l (omega arith)))
-      ∙ ap (λ (m : List ℕ). record { good = true; count = length (take k l); enclaves = m }) array-is
+      ap (λ (j : ℕ). Some (record { count = j; enclaves = l })) (sym (length-take-le k l (omega arith)))
+      ∙ ap (λ (m : List ℕ). Some (record { count = length (take k l); enclaves = m })) array-is

@@ -2,166 +2,141 @@
 // New here: the Rust reads no script. A line that is no event is told as none; nothing else is refused.
 #![tactic(auto)]
 
-ghost use Rattle.std.specs.Prelude.{◌≡◌, ◌∷◌, ◌+◌, ◌≤◌, ◌<◌, length, drop, None, Some};
-ghost use Rattle.numerals.specs.Numerals.{space};
-ghost use Rattle.numerals.specs.Told.{until};
-ghost use Rattle.events.specs.Events.{event_number, listed, input_of, by_fields, event_of};
-ghost use Rattle.events.specs.Told.{told_event, event_for, enclaves_of, fields_from};
-ghost use Rattle.eventlines.specs.Named.{named_of};
+ghost use Rattle.std.specs.Prelude.{◌≡◌, [], ◌∷◌, ◌≤◌, None, Some, MatchOption};
+ghost use Rattle.events.specs.Events.{event_number, listed, input_of, without_fields, by_fields, event_of};
+ghost use Rattle.events.specs.Told.{told_event, event_for, enclaves_of};
+ghost use Rattle.eventlines.specs.Named.{fields_of, named_of};
 
 use events::Event;
 
-// What the fields of an `input` line name: whether they are good, how many enclaves, and these, with 0 after them.
+// The fields of a line from the space at a place on.
+#[derive(Clone, Copy)]
+struct Fields<'a> {
+    line: &'a [u8],
+    at: usize,
+}
+
+// What the fields of an `input` line name: how many enclaves, and these, with 0 after them.
 #[derive(Clone, Copy)]
 struct Named {
-    good: bool,
     count: usize,
     enclaves: [u32; 32],
 }
 
-// Where the field after the space at this place ends.
-fn field_end(line: &[u8], at: usize) -> usize
-    requires { at < length line.now }
-    ensures { (result ≡ at + 1 + until space (drop (at + 1) line.now)) × (result ≤ length line.now) }
-{
-    at + 1 + numerals::find(&line[at + 1..], 32)
+impl<'a> Fields<'a> {
+    // The next field, which is passed; none where the line has ended.
+    fn next(&mut self) -> Option<&'a [u8]>
+        ensures { MatchOption result (fields_of self.old ≡ []) (λ f. fields_of self.old ≡ f.now ∷ fields_of self.new) }
+    {
+        let line = self.line;
+        if line.len() <= self.at {
+            return None;
+        }
+        let from = self.at + 1;
+        let end = from + numerals::find(&line[from..], 32);
+        self.at = end;
+        Some(&line[from..end])
+    }
 }
 
 // The number of an event's word; 0 where it is none's.
+// Kept: a number, and no enum of the words, which would name each of the seventeen events once more beside `Event`.
 fn event_number(w: &[u8]) -> u8
     ensures { result ≡ event_number w.now }
 {
-    let names: &[u8] =
+    let line: &[u8] =
         b" active publish complete observed stopped failed acquire sent observe idle stop horizon begin late done input progress";
+    let mut names = Fields { line, at: 0 };
     let mut number: u8 = 1;
-    let mut at: usize = 0;
-    while at < names.len() {
-        let end = field_end(names, at);
-        if octets::same_bytes(w, &names[at + 1..end]) {
+    while let Some(name) = names.next() {
+        if octets::same_bytes(w, name) {
             return number;
         }
         number += 1;
-        at = end;
     }
     0
 }
 
-fn after_two(kind: u8, a: &[u8], b: &[u8], line: &[u8], at: usize) -> Event
-    ensures { result ≡ event_for (by_fields kind (a.now ∷ b.now ∷ fields_from at line.now)) }
+// `stop`, `progress`.
+#[tactic(auto, unfolding(events::specs::Events::without_fields))]
+fn without_fields(kind: u8) -> Option<Event>
+    ensures { result ≡ event_for (without_fields kind) }
 {
-    if line.len() <= at {
-        return events::with_two_fields(kind, a, b);
+    match kind {
+        11 => Some(Event::Stop),
+        17 => Some(Event::Progress),
+        _ => None,
     }
-    let end = field_end(line, at);
-    if end < line.len() {
-        return Event::NoEvent;
-    }
-    events::with_three_fields(kind, a, b, &line[at + 1..end])
 }
 
-fn after_one(kind: u8, a: &[u8], line: &[u8], at: usize) -> Event
-    ensures { result ≡ event_for (by_fields kind (a.now ∷ fields_from at line.now)) }
+// The event of a word's number and its fields; none has a fourth.
+fn with_fields(kind: u8, mut fields: Fields) -> Option<Event>
+    ensures { result ≡ event_for (by_fields kind (fields_of fields.entry)) }
 {
-    if line.len() <= at {
+    let Some(a) = fields.next() else {
+        return without_fields(kind);
+    };
+    let Some(b) = fields.next() else {
         return events::with_one_field(kind, a);
-    }
-    let end = field_end(line, at);
-    after_two(kind, a, &line[at + 1..end], line, end)
-}
-
-fn with_fields(kind: u8, line: &[u8], at: usize) -> Event
-    ensures { result ≡ event_for (by_fields kind (fields_from at line.now)) }
-{
-    if line.len() <= at {
-        return match kind {
-            11 => Event::Stop,
-            17 => Event::Progress,
-            _ => Event::NoEvent,
-        };
-    }
-    let end = field_end(line, at);
-    after_one(kind, &line[at + 1..end], line, end)
-}
-
-fn unnamed() -> Named
-    ensures { result ≡ named_of None }
-{
-    Named {
-        good: false,
-        count: 0,
-        enclaves: [0; 32],
+    };
+    let Some(c) = fields.next() else {
+        return events::with_two_fields(kind, a, b);
+    };
+    match fields.next() {
+        None => events::with_three_fields(kind, a, b, c),
+        Some(_) => None,
     }
 }
 
-fn listed_enclaves(line: &[u8], from: usize, n: usize) -> Named
+// As many enclaves as an `input` line says, from its fields after that.
+fn listed_enclaves(mut fields: Fields, n: usize) -> Option<Named>
     requires { n ≤ 32 }
-    ensures { result ≡ named_of (listed (Some n) (fields_from from line.now)) }
+    ensures { result ≡ named_of (listed (Some n) (fields_of fields.entry)) }
 {
     let mut enclaves: [u32; 32] = [0; 32];
-    let mut count: usize = 0;
-    let mut at = from;
-    while at < line.len() {
-        if n <= count {
-            return unnamed();
-        }
-        let end = field_end(line, at);
-        let w = numerals::number(&line[at + 1..end], 4294967295);
-        let Some(e) = w else {
-            return unnamed();
-        };
-        enclaves[count] = e as u32;
-        count += 1;
-        at = end;
+    for k in 0..n {
+        let field = fields.next()?;
+        let enclave = numerals::number(field, 4294967295)?;
+        enclaves[k] = enclave as u32;
     }
-    if count < n {
-        return unnamed();
-    }
-    Named {
-        good: true,
-        count,
-        enclaves,
+    match fields.next() {
+        None => Some(Named { count: n, enclaves }),
+        Some(_) => None,
     }
 }
 
-fn input_fields(line: &[u8], at: usize) -> Named
-    ensures { result ≡ named_of (input_of (fields_from at line.now)) }
+fn input_fields(mut fields: Fields) -> Option<Named>
+    ensures { result ≡ named_of (input_of (fields_of fields.entry)) }
 {
-    if line.len() <= at {
-        return unnamed();
-    }
-    let end = field_end(line, at);
-    let n = numerals::number(&line[at + 1..end], 32);
-    match n {
-        None => unnamed(),
-        Some(k) => listed_enclaves(line, end, k as usize),
-    }
+    let field = fields.next()?;
+    let n = numerals::number(field, 32)?;
+    listed_enclaves(fields, n as usize)
 }
 
 // The event that a line, without its LF, tells.
-pub fn read_event(line: &[u8]) -> Event
+pub fn read_event(line: &[u8]) -> Option<Event>
     ensures { told_event result (enclaves_of line.now) ≡ event_of line.now }
 {
-    let first = numerals::find(line, 32);
-    let kind = event_number(&line[..first]);
+    let at = numerals::find(line, 32);
+    let kind = event_number(&line[..at]);
     if kind == 16 {
-        let fields = input_fields(line, first);
-        if fields.good {
-            return Event::Input(fields.count);
-        }
-        return Event::NoEvent;
+        let named = input_fields(Fields { line, at })?;
+        return Some(Event::Input(named.count));
     }
-    with_fields(kind, line, first)
+    with_fields(kind, Fields { line, at })
 }
 
 // The enclaves that the line names if it is an `input`, and 0 in every place after them.
 pub fn enclaves(line: &[u8]) -> [u32; 32]
     ensures { result ≡ enclaves_of line.now }
 {
-    let first = numerals::find(line, 32);
-    let kind = event_number(&line[..first]);
+    let at = numerals::find(line, 32);
+    let kind = event_number(&line[..at]);
     if kind != 16 {
         return [0; 32];
     }
-    let fields = input_fields(line, first);
-    fields.enclaves
+    match input_fields(Fields { line, at }) {
+        Some(named) => named.enclaves,
+        None => [0; 32],
+    }
 }

@@ -1,5 +1,4 @@
 -- The fields of a line from a place on: none at its end, and else the next one and those from where that one ends on. Assumes nothing.
-use Rattle.std.specs.Prelude.{None, Some}
 use mathlib.Core.Path.{◌≡◌, refl, sym, ap, ◌∙◌}
 use mathlib.Core.List.{List, [], ◌∷◌}
 use Prim.Native.Nat.{ℕ, ◌+◌, ◌-◌, ◌<◌, ◌≤◌}
@@ -9,8 +8,7 @@ use lib.Seq.{drop-drop, take_all}
 use borrow.Author.Tests.{lt-ltb, le-ltb}
 use Rattle.numerals.specs.Numerals.{split, space}
 use Rattle.numerals.specs.Told.{until}
-use Rattle.numerals.proofs.Splits.{by_order, split_at, split-some, split-whole}
-use Rattle.events.specs.Events.{by_fields}
+use Rattle.numerals.proofs.Splits.{by_order, split_at, split-whole}
 use Rattle.events.specs.Told.{fields_from}
 
 pub fields-end : (line : List ℕ) (at : ℕ) → length line ≤ at → fields_from at line ≡ []
@@ -44,11 +42,3 @@ fields-next line at end h found =
     let e = until space (drop (at + 1) line) in
     let k : end - (at + 1) ≡ e = omega arith in
     fields_within line at h ∙ fields-first (drop (at + 1) line) e refl ∙ rw (k, fields-after line (at + 1) e (omega arith), found)
-
--- no event has a fourth field
-pub fields-four : (k : ℕ) (a b line : List ℕ) (at end : ℕ) → at < length line → end ≡ at + 1 + until space (drop (at + 1) line) → end < length line
-    → None ≡ by_fields k (a ∷ b ∷ fields_from at line)
-fields-four k a b line at end h found g =
-    let c = take (end - (at + 1)) (drop (at + 1) line) in
-    rw (fields-next line at end h found, fields_within line end g)
-    (split-some (λ fs. None ≡ by_fields k (a ∷ b ∷ c ∷ fs)) space (drop (end + 1) line) (λ p ps. refl))
