@@ -1,6 +1,6 @@
 -- The first halves of CompleteTag and of CompletionObserved, branch by branch: the parts that the code stores are, in every good state that has the given
 -- ones, the rules' change of the enclave's participant and of the pending pair. Assumes nothing.
-use Rattle.std.specs.Prelude.{Some}
+use Rattle.std.specs.Prelude.{None, Some}
 use mathlib.Core.Path.{◌≡◌, refl, sym, ap, ap₂, ◌∙◌}
 use mathlib.Core.Logic.{◌↔◌}
 use mathlib.Core.Bool.{Bool, true, false, cond, ◌&&◌}
@@ -31,7 +31,7 @@ use Rattle.completion.proofs.Cells.{widened-pair, neat-present, neat-widened}
 
 -- nothing is done
 abbrev pub unchanged : Parts → Decided
-unchanged p = record { parts = p; forgets = false; next = Says 0 }
+unchanged p = record { parts = p; forgets = false; next = Says None }
 
 decides-nothing : (rule : State → Step) (e : ℕ) (p : Parts)
     → ((s : Held) (i : ℕ) → Good s → Seated s e i → parts_of s i ≡ p → rule (view s) ≡ quiet (view s)) → Decides rule e p (unchanged p)
@@ -140,7 +140,7 @@ observed_with g p = record {
     first_failure = p.first_failure;
   };
   forgets = false;
-  next = Says 0;
+  next = Says None;
 }
 
 module _ (e g : ℕ) (p : Parts) where

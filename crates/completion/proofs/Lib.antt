@@ -1,4 +1,4 @@
 pub mod Cells
 pub mod Steps
-pub mod Halves
 pub mod Answers
+pub mod Halves

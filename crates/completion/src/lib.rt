@@ -1,5 +1,5 @@
 // Completion (document 01, "CompleteTag", "CompletionObserved", "After every taken scheduler message" and "Complete's mark"; state.rs:
-// complete, completion, advance_completion). The columns are lent and small parts go in and out by value. 9 is answered as `spent`.
+// complete, completion, advance_completion). The state is lent and small parts go in and out by value.
 #![tactic(auto)]
 
 ghost use Rattle.std.specs.Prelude.{◌≡◌, false, cond, ℕ, ◌≤◌, T, Some};
@@ -7,13 +7,15 @@ ghost use Rattle.tags.specs.Tags.{is_proper};
 ghost use Rattle.rules.specs.Completion.{complete_tag_of, observed_of, front_of};
 ghost use Rattle.rules.specs.Walk.{is_stopped};
 ghost use Rattle.state.specs.declared.FederateCoordinationState.{FederateCoordinationState as Held};
-ghost use Rattle.state.specs.Cells.{is_absent};
+ghost use Rattle.state.specs.Beside.{Beside};
+ghost use Rattle.state.specs.Cells.{absent, is_absent};
 ghost use Rattle.state.specs.View.{view, represents};
 ghost use Rattle.state.specs.Decides.{Aside, Decides, neat_parts};
-ghost use Rattle.completion.specs.Advance.{Has, Advances, CompletesLeast};
-ghost use Rattle.completion.specs.Changes.{with_probe, is_reached, finished_at, widened_by, still_at, completing_at, asking_at, unblocked_at};
+ghost use Rattle.completion.specs.Advance.{Advances, CompletesLeast};
+ghost use Rattle.completion.specs.Changes.{is_reached, widened_by, with_probe, reached_at, still_at, completing_at, asking_at, unblocked_at};
 
-use state::{ABSENT, Completion, Decided, Next, Parts};
+use records::{FederateCompletion, Refusal};
+use state::{ABSENT, Completion, Decided, FederateCoordinationState, Next, Parts, Row};
 use table::Scanned;
 use tags::Tag;
 
@@ -21,30 +23,23 @@ use tags::Tag;
 #[derive(Clone, Copy)]
 pub enum Saying {
     Nothing,
-    // A CompletionProbe to each lagging enclave.
-    Probes,
-    // Complete of the frontier.
-    Completes,
+    // A CompletionProbe of the generation to each enclave that lags behind the tag.
+    Probes(Tag),
+    // Complete of the frontier, with its mark.
+    Completes(FederateCompletion),
 }
 
 // The completion step: what it says, and the cells of completion after it.
 #[derive(Clone, Copy)]
 pub struct Advanced {
-    // The generation would rise past 2^64 - 1: 9, and nothing else counts.
-    pub spent: bool,
     pub saying: Saying,
-    // f, and Complete's mark.
-    pub frontier: Tag,
-    pub mark: bool,
     pub completion: Completion,
 }
 
-// CompleteTag's second half: whether it completes, the tag and its mark, and the cells of completion after it.
+// CompleteTag's second half where it completes: the frontier with its mark, and the cells of completion after it.
 #[derive(Clone, Copy)]
 pub struct Least {
-    pub completes: bool,
-    pub tag: Tag,
-    pub mark: bool,
+    pub frontier: FederateCompletion,
     pub completion: Completion,
 }
 
@@ -52,53 +47,45 @@ pub struct Least {
 fn is_reached(input: Tag, frontier: Tag) -> bool
     ensures { result ≡ is_reached input frontier }
 {
-    if state::is_absent(input) {
-        return false;
-    }
-    tags::at_or_below(input, frontier)
+    !state::is_absent(input) && tags::at_or_below(input, frontier)
 }
 
-// Complete's mark: whether the pair's first is at or below the frontier.
-fn is_marked(completion: Completion, frontier: Tag) -> bool
-    ensures { result ≡ is_reached completion.first_input frontier }
-{
-    let input = completion.first_input;
-    is_reached(input, frontier)
-}
-
-// The frontier reached, with the pair dropped when its last is at or below it.
-fn finished(completion: Completion, frontier: Tag) -> Completion
-    ensures { result ≡ finished_at frontier completion }
+// The frontier reached: Complete's mark is that the pair's first is at or below it, and the pair is dropped when its last is.
+fn reached(completion: Completion, frontier: Tag) -> Least
+    ensures { result ≡ reached_at frontier completion }
 {
     let mut next = completion;
     next.completed_frontier = frontier;
-    let last = completion.last_input;
-    if is_reached(last, frontier) {
-        let none = ABSENT;
-        next.first_input = none;
-        next.last_input = none;
+    if is_reached(completion.last_input, frontier) {
+        next.first_input = ABSENT;
+        next.last_input = ABSENT;
     }
-    next
+    Least {
+        frontier: FederateCompletion {
+            completed: frontier,
+            network_input: is_reached(completion.first_input, frontier),
+        },
+        completion: next,
+    }
 }
 
 // The pair widened by network input.
-fn widened(completion: Completion, tag: Tag, network_input: bool) -> Completion
-    ensures { result ≡ cond network_input (widened_by tag completion) completion }
+fn widened(completion: Completion, tag: Tag) -> Completion
+    ensures { result ≡ widened_by tag completion }
 {
-    if !network_input {
-        return completion;
+    if state::is_absent(completion.first_input) {
+        Completion {
+            first_input: tag,
+            last_input: tag,
+            ..completion
+        }
+    } else {
+        Completion {
+            first_input: tags::lesser(completion.first_input, tag),
+            last_input: tags::greater(completion.last_input, tag),
+            ..completion
+        }
     }
-    let mut next = completion;
-    let first = completion.first_input;
-    let last = completion.last_input;
-    if state::is_absent(first) {
-        next.first_input = tag;
-        next.last_input = tag;
-        return next;
-    }
-    next.first_input = tags::lesser(first, tag);
-    next.last_input = tags::greater(last, tag);
-    next
 }
 
 // CompleteTag's first half.
@@ -107,21 +94,18 @@ pub fn complete(parts: Parts, tag: Tag, network_input: bool) -> Decided
     ensures neat { T (is_proper tag) → T (neat_parts parts) → T (neat_parts result.parts) }
     ensures aside { Aside parts result }
 {
-    let c = parts.coordination;
-    let k = parts.completion;
-    let mut row = parts.row;
-    let completed = row.completed;
-    if c.phase == 6 || !table::lags(completed, tag) {
+    let mut next = parts;
+    if parts.coordination.phase == 6 || !table::lags(parts.row.completed, tag) {
         return Decided {
             parts,
             forgets: false,
-            next: Next::Says(0),
+            next: Next::Says(None),
         };
     }
-    row.completed = tag;
-    let mut next = parts;
-    next.row = row;
-    next.completion = widened(k, tag, network_input);
+    next.row.completed = tag;
+    if network_input {
+        next.completion = widened(parts.completion, tag);
+    }
     Decided {
         parts: next,
         forgets: false,
@@ -135,200 +119,131 @@ pub fn observe_completion(parts: Parts, generation: u64) -> Decided
     ensures neat { T (neat_parts parts) → T (neat_parts result.parts) }
     ensures aside { Aside parts result }
 {
-    let k = parts.completion;
-    let probe = k.completion_probe;
+    let completion = parts.completion;
     let mut next = parts;
-    if !state::is_absent(probe) {
-        if generation == k.completion_generation {
-            let mut row = parts.row;
-            row.acknowledged = true;
-            row.completion_observed = generation;
-            next.row = row;
-        }
+    if !state::is_absent(completion.completion_probe)
+        && generation == completion.completion_generation
+    {
+        next.row.acknowledged = true;
+        next.row.completion_observed = generation;
     }
     Decided {
         parts: next,
         forgets: false,
-        next: Next::Says(0),
+        next: Next::Says(None),
     }
 }
 
 // CompleteTag's second half: the least completed tag becomes the frontier if all have one and it passes the frontier.
-pub fn complete_least<'a>(
-    seconds: &'a [i64; 96],
-    nanoseconds: &'a [i32; 96],
-    microsteps: &'a [u64; 96],
-    count: usize,
-    completion: Completion,
-) -> Least
-    requires { count ≤ 32 }
-    ensures { (s : Held) → T (represents s) → s.seconds ≡ seconds.now → s.nanoseconds ≡ nanoseconds.now → s.microsteps ≡ microsteps.now → s.count ≡ count → s.completion ≡ completion → CompletesLeast s result }
+pub fn complete_least(state: &FederateCoordinationState, completion: Completion) -> Option<Least>
+    requires { state.now.count ≤ 32 }
+    ensures { (s : Held) → T (represents s) → Beside s state.now → s.completion ≡ completion → CompletesLeast s result }
 {
-    let least = table::least_completed(seconds, nanoseconds, microsteps, count);
-    let frontier = completion.completed_frontier;
-    if state::is_absent(least) || !table::lags(frontier, least) {
-        return Least {
-            completes: false,
-            tag: least,
-            mark: false,
-            completion,
-        };
+    let least = state::optional_of(table::least_completed(state))?;
+    if !table::lags(completion.completed_frontier, least) {
+        return None;
     }
-    Least {
-        completes: true,
-        tag: least,
-        mark: is_marked(completion, least),
-        completion: finished(completion, least),
-    }
-}
-
-// The probe replaced.
-fn probing(completion: Completion, probe: Tag) -> Completion
-    ensures { result ≡ with_probe probe completion }
-{
-    let mut next = completion;
-    next.completion_probe = probe;
-    next
+    Some(reached(completion, least))
 }
 
 // A step that says nothing.
-fn still(frontier: Tag, completion: Completion) -> Advanced
-    ensures { result ≡ still_at frontier completion }
+fn still(completion: Completion) -> Advanced
+    ensures { result ≡ still_at completion }
 {
     Advanced {
-        spent: false,
         saying: Saying::Nothing,
-        frontier,
-        mark: false,
         completion,
     }
+}
+
+// A step that says nothing and clears the probe.
+fn unasked(completion: Completion) -> Advanced
+    ensures { result ≡ still_at (with_probe absent completion) }
+{
+    still(Completion {
+        completion_probe: ABSENT,
+        ..completion
+    })
 }
 
 // Those lagging have all observed the generation.
 fn completing(frontier: Tag, completion: Completion) -> Advanced
     ensures { result ≡ completing_at frontier completion }
 {
-    let mark = is_marked(completion, frontier);
-    let reached = finished(completion, frontier);
-    let next = probing(reached, ABSENT);
+    let done = reached(completion, frontier);
     Advanced {
-        spent: false,
-        saying: Saying::Completes,
-        frontier,
-        mark,
-        completion: next,
+        saying: Saying::Completes(done.frontier),
+        completion: Completion {
+            completion_probe: ABSENT,
+            ..done.completion
+        },
     }
 }
 
 // Those lagging are asked under the next generation, if there is one.
-fn asking(frontier: Tag, completion: Completion) -> Advanced
+fn asking(frontier: Tag, completion: Completion) -> Result<Advanced, Refusal>
     ensures { result ≡ asking_at frontier completion }
 {
-    let generation = completion.completion_generation;
-    if generation == 18446744073709551615 {
-        return Advanced {
-            spent: true,
-            saying: Saying::Nothing,
-            frontier,
-            mark: false,
-            completion,
-        };
-    }
-    let mut next = completion;
-    next.completion_generation = generation + 1;
-    next.completion_probe = frontier;
-    Advanced {
-        spent: false,
-        saying: Saying::Probes,
-        frontier,
-        mark: false,
-        completion: next,
-    }
+    let generation = completion
+        .completion_generation
+        .checked_add(1)
+        .ok_or(Refusal::GenerationSpent)?;
+    Ok(Advanced {
+        saying: Saying::Probes(frontier),
+        completion: Completion {
+            completion_generation: generation,
+            completion_probe: frontier,
+            ..completion
+        },
+    })
 }
 
 // None blocks: the probe becomes f, or, once it is and all those lagging have observed the generation, f completes.
-fn unblocked(answered: bool, frontier: Tag, completion: Completion) -> Advanced
+fn unblocked(answered: bool, frontier: Tag, completion: Completion) -> Result<Advanced, Refusal>
     ensures { result ≡ unblocked_at answered frontier completion }
 {
-    let probe = completion.completion_probe;
-    if tags::same_tag(probe, frontier) {
-        if answered {
-            return completing(frontier, completion);
-        }
-        return still(frontier, completion);
+    if !tags::same_tag(completion.completion_probe, frontier) {
+        asking(frontier, completion)
+    } else if answered {
+        Ok(completing(frontier, completion))
+    } else {
+        Ok(still(completion))
     }
-    asking(frontier, completion)
 }
 
 // The step towards f, in a state that runs.
-fn advance_to<'a>(
-    published: &'a [bool; 32],
-    acknowledged: &'a [bool; 32],
-    completion_observed: &'a [u64; 32],
-    seconds: &'a [i64; 96],
-    nanoseconds: &'a [i32; 96],
-    microsteps: &'a [u64; 96],
-    count: usize,
+fn advance_to(
+    state: &FederateCoordinationState,
     frontier: Tag,
     completion: Completion,
-) -> Advanced
-    requires { count ≤ 32 }
-    ensures { (s : Held) → T (represents s) → Has s published.now acknowledged.now completion_observed.now seconds.now nanoseconds.now microsteps.now count s.coordination.phase s.grant_horizon completion → is_absent frontier ≡ false → is_stopped (view s) ≡ false → front_of (view s) ≡ Some frontier → Advances s result }
+) -> Result<Advanced, Refusal>
+    requires { state.now.count ≤ 32 }
+    ensures { (s : Held) → T (represents s) → Beside s state.now → s.completion ≡ completion → is_absent frontier ≡ false → is_stopped (view s) ≡ false → front_of (view s) ≡ Some frontier → Advances s result }
 {
-    let reached = completion.completed_frontier;
-    if !table::lags(reached, frontier) {
-        return still(frontier, probing(completion, ABSENT));
+    if !table::lags(completion.completed_frontier, frontier) {
+        return Ok(unasked(completion));
     }
-    let scanned = table::scan(
-        published,
-        acknowledged,
-        completion_observed,
-        seconds,
-        nanoseconds,
-        microsteps,
-        count,
-        frontier,
-        completion.completion_generation,
-    );
-    match scanned {
-        Scanned::Blocked => still(frontier, probing(completion, ABSENT)),
+    match table::scan(state, frontier, completion.completion_generation) {
+        Scanned::Blocked => Ok(unasked(completion)),
         Scanned::Waiting => unblocked(false, frontier, completion),
         Scanned::Answered => unblocked(true, frontier, completion),
     }
 }
 
 // After every taken scheduler message, if running.
-pub fn advance_completion<'a>(
-    published: &'a [bool; 32],
-    acknowledged: &'a [bool; 32],
-    completion_observed: &'a [u64; 32],
-    seconds: &'a [i64; 96],
-    nanoseconds: &'a [i32; 96],
-    microsteps: &'a [u64; 96],
-    count: usize,
+pub fn advance_completion(
+    state: &FederateCoordinationState,
     phase: u8,
-    horizon: Tag,
     completion: Completion,
-) -> Advanced
-    requires { count ≤ 32 }
-    ensures { (s : Held) → T (represents s) → Has s published.now acknowledged.now completion_observed.now seconds.now nanoseconds.now microsteps.now count phase horizon completion → Advances s result }
+) -> Result<Advanced, Refusal>
+    requires { state.now.count ≤ 32 }
+    ensures { (s : Held) → T (represents s) → Beside s state.now → s.coordination.phase ≡ phase → s.completion ≡ completion → Advances s result }
 {
     if phase == 6 {
-        return still(horizon, completion);
+        return Ok(still(completion));
     }
-    let frontier = table::front(seconds, nanoseconds, microsteps, count, horizon);
-    if state::is_absent(frontier) {
-        return still(horizon, completion);
+    match state::optional_of(table::front(state)) {
+        None => Ok(still(completion)),
+        Some(frontier) => advance_to(state, frontier, completion),
     }
-    advance_to(
-        published,
-        acknowledged,
-        completion_observed,
-        seconds,
-        nanoseconds,
-        microsteps,
-        count,
-        frontier,
-        completion,
-    )
 }

@@ -1,16 +1,21 @@
--- `completion::advance_completion` is `advance_of`: stopped, f missing, or the step towards f, each by its law of Answers. Assumes nothing.
+-- `completion::advance_completion` is `advance_of`: stopped, f missing, or the step towards f. Assumes nothing.
 use mathlib.Core.Path.{sym, ◌∙◌}
 use borrow.Author.Tests.{eq-eqb, ne_eqb}
-use Rattle.completion.proofs.Answers.{answers-stopped, answers-missing, answers-towards}
+use Rattle.state.proofs.Halves.{stopped-is}
+use Rattle.completion.proofs.Steps.{still-stopped, still-missing}
+use Rattle.completion.proofs.Answers.{front-is, is-there}
 use Rattle.completion.proofs.advance_completion.Goals as goal
 
 pub returns-then-phase-eq6 : goal.returns-then-phase-eq6
-returns-then-phase-eq6 c = answers-stopped _ _ _ _ _ _ _ _ _ _ _ (eq-eqb _ 6 c.if-phase-eq6.true) c.still.ensures
+returns-then-phase-eq6 c s whole v at own =
+    rw (c.still.ensures, ← own) (still-stopped s whole (stopped-is s whole ∙ rw at (eq-eqb c.args.phase 6 c.if-phase-eq6.true)))
 
-pub returns-then-is_absent : goal.returns-then-is_absent
-returns-then-is_absent c = answers-missing _ _ _ _ _ _ _ _ _ _ _ (ne_eqb _ 6 c.if-phase-eq6.false) _ c.front-frontier.ensures (sym c.is_absent.ensures ∙ c.if-is_absent.true)
-    c.still-then-is_absent.ensures
+pub returns-in-None : goal.returns-in-None
+returns-in-None c s whole v at own =
+    rw (c.still-in-None.ensures, ← own)
+    (still-missing s whole (stopped-is s whole ∙ rw at (ne_eqb c.args.phase 6 c.if-phase-eq6.false)) (front-is v c.front.result c.front.ensures ∙ sym c.in-None.ensures))
 
-pub returns : goal.returns
-returns c = answers-towards _ _ _ _ _ _ _ _ _ _ _ (ne_eqb _ 6 c.if-phase-eq6.false) _ c.front-frontier.ensures (sym c.is_absent.ensures ∙ c.if-is_absent.false)
-    c.advance_to.ensures
+pub returns-in-Some : goal.returns-in-Some
+returns-in-Some c s whole v at own =
+    c.advance_to.ensures s whole v own (is-there c.front.result c.in-Some.ensures)
+    (stopped-is s whole ∙ rw at (ne_eqb c.args.phase 6 c.if-phase-eq6.false)) (front-is v c.front.result c.front.ensures ∙ sym c.in-Some.ensures)

@@ -1,20 +1,19 @@
--- `completion::complete_least` is `complete_all` of the least completed tag: each return by the law of Answers for the tests on its way. Assumes nothing.
-use mathlib.Core.Path.{refl, sym, ◌∙◌}
-use Rattle.completion.proofs.Answers.{least-missing, least-passed, least-completes}
+-- `completion::complete_least` is `complete_all` of the least completed tag: each return by the law of Steps for the tests on its way. Assumes nothing.
+use mathlib.Core.Path.{sym, ◌∙◌}
+use Rattle.completion.proofs.Steps.{least-missing, least-passed, least-completes}
+use Rattle.completion.proofs.Answers.{least-is, is-there}
 use Rattle.completion.proofs.complete_least.Goals as goal
-use Rattle.completion.proofs.complete_least.Goals.{then-is_absent-via-then-is_absent, then-is_absent-via-else-is_absent+then-not-lags}
 
-pub returns-then-is_absent : goal.returns-then-is_absent
-returns-then-is_absent c =
-    let there = sym c.is_absent.ensures in
-    elim c.then-is_absent.branch [
-      | then-is_absent-via-then-is_absent w ↦ least-missing _ _ _ _ _ _ c.least_completed-least.ensures _ (there ∙ w.if-is_absent.true) refl
-      | then-is_absent-via-else-is_absent+then-not-lags w ↦
-          least-passed _ _ _ _ _ _ c.least_completed-least.ensures _ (there ∙ w.if-is_absent.false) _ w.lags.ensures w.if-not-lags.true refl
-    ]
+pub returns-in_err-least : goal.returns-in_err-least
+returns-in_err-least c s whole v own = rw c.from_residual.ensures (least-missing s whole (least-is v c.least_completed.result c.least_completed.ensures ∙ sym c.in_err-least.ensures))
+
+pub returns-then-not-lags : goal.returns-then-not-lags
+returns-then-not-lags c s whole v own =
+    least-passed s whole c.in_ok-least.least (least-is v c.least_completed.result c.least_completed.ensures ∙ sym c.in_ok-least.ensures)
+    (rw own (sym c.lags.ensures ∙ c.if-not-lags.true))
 
 pub returns : goal.returns
-returns c = let there = sym c.is_absent.ensures ∙ c.if-is_absent.false in
-    let passes = c.if-not-lags.false in
-    least-completes _ _ _ _ c.args.completion _ c.least_completed-least.ensures _ there _ c.lags.ensures passes
-    c.is_marked.ensures c.finished.ensures refl
+returns c s whole v own =
+    rw (c.reached.ensures, ← own)
+    (least-completes s whole c.in_ok-least.least (least-is v c.least_completed.result c.least_completed.ensures ∙ sym c.in_ok-least.ensures)
+    (is-there c.least_completed.result c.in_ok-least.ensures) (rw own (sym c.lags.ensures ∙ c.if-not-lags.false)))
