@@ -1,12 +1,7 @@
 -- Which parts are neat, in named conjuncts, and the parts of a revision. Assumes nothing.
 use Rattle.std.specs.Prelude.{None}
-use mathlib.Core.Logic.Iff
-use mathlib.Core.Logic.{◌↔◌}
-use mathlib.Core.Bool.{Bool, ◌&&◌}
 use lib.Dec.{T}
 use Rattle.tags.specs.Tags.{◌≤ₜ◌}
-use Rattle.rules.proofs.Lists.{and_left, and_right}
-use Rattle.rules.proofs.Invariants.{and_intro}
 use Rattle.state.specs.declared.Coordination.{Coordination}
 use Rattle.state.specs.declared.Completion.{Completion}
 use Rattle.state.specs.declared.Row.{Row}
@@ -15,11 +10,8 @@ use Rattle.state.specs.Cells.{is_neat, is_zero_unless}
 use Rattle.state.specs.View.{neat_coordination, neat_completion}
 use Rattle.state.specs.Decides.{neat_row, neat_parts}
 use Rattle.state.proofs.Rows.{neat-cell}
-use Rattle.state.proofs.Neat.{completion-parts, completion-whole}
+use Rattle.state.proofs.Neat.{and_parts, four-parts, completion-parts, completion-whole}
 use Rattle.publication.specs.Revise.{revised_of, unprobed_of}
-
-and_parts : (a b : Bool) → T (a && b) ↔ (T a × T b)
-and_parts a b = (λ h. (and_left a b h, and_right a b h), λ h. and_intro a b h.0 h.1)
 
 pub record NeatParts (p : Parts) : Type 0 where
   pub row : T (neat_row p.row)
@@ -38,17 +30,14 @@ row_of w h = let r = simp and_parts at h in record { candidate = r.0.0; complete
 pub row-whole : (w : Row) → NeatRow w → T (neat_row w)
 row-whole w v = simp and_parts ((v.candidate, v.completed), v.observed)
 
-four : (a b c d : Bool) → T (a && b && c && d) ↔ (((T a × T b) × T c) × T d)
-four a b c d = simp and_parts Iff.rfl
-
 pub parts-of : (p : Parts) → T (neat_parts p) → NeatParts p
 parts-of p h =
-    let r = (four (neat_row p.row) (neat_coordination p.coordination) (neat_completion p.completion) (is_zero_unless p.failed p.first_failure)).0 h in
+    let r = (four-parts (neat_row p.row) (neat_coordination p.coordination) (neat_completion p.completion) (is_zero_unless p.failed p.first_failure)).0 h in
     record { row = r.0.0.0; coordination = r.0.0.1; completion = r.0.1; failure = r.1 }
 
 pub parts_whole : (p : Parts) → NeatParts p → T (neat_parts p)
 parts_whole p v =
-    (four (neat_row p.row) (neat_coordination p.coordination) (neat_completion p.completion) (is_zero_unless p.failed p.first_failure)).1
+    (four-parts (neat_row p.row) (neat_coordination p.coordination) (neat_completion p.completion) (is_zero_unless p.failed p.first_failure)).1
     (((v.row, v.coordination), v.completion), v.failure)
 
 pub neat-revised : (c : Coordination) → T (neat_coordination (revised_of c))

@@ -1,10 +1,10 @@
 // Publication (document 01, "Revise", "Active" and "Publish"; state.rs: revise_publication, activate, publish). The state is lent and small parts go
 // in and out by value. Nothing is refused here.
+// Kept: a phase or a policy that is read is compared by its number, which the state holds for the C interface.
 #![tactic(auto)]
 
 ghost use Rattle.std.specs.Prelude.{◌≡◌, false, ℕ, ◌≤◌, T, Option};
 ghost use Rattle.tags.specs.Tags.{proper_if_present};
-ghost use Rattle.records.specs.Numbers.{phase_number};
 ghost use Rattle.rules.specs.Publication.{activate_of, publish_of, repeated, idle_phase};
 ghost use Rattle.state.specs.declared.FederateCoordinationState.{FederateCoordinationState as Held};
 ghost use Rattle.state.specs.declared.Next.TheVariants.{Says};
@@ -15,6 +15,7 @@ ghost use Rattle.state.specs.Decides.{Decides, neat_parts, said_of};
 ghost use Rattle.publication.specs.Announce.{dropped_of, Announces};
 ghost use Rattle.publication.specs.Revise.{revised_of, unprobed_of};
 
+use records::CoordinationPhase;
 use state::{
     ABSENT, Completion, Coordination, Decided, FederateCoordinationState, Gate, Next, Notice, Parts,
 };
@@ -24,10 +25,9 @@ use tags::Tag;
 pub fn revised(c: Coordination) -> Coordination
     ensures { result ≡ revised_of c }
 {
-    let revision = records::next(c.revision);
     Coordination {
-        revision,
-        phase: 0,
+        revision: records::next(c.revision),
+        phase: u8::from(CoordinationPhase::Active),
         authorized: false,
         idle_authorization: 0,
         pending: false,
@@ -123,16 +123,16 @@ pub fn publish(parts: Parts, next_event: Option<Tag>) -> Decided
 }
 
 // Parked or Probing where there is no candidate, by the policy; else Active.
-fn idle_phase(next_event: Tag, lifecycle: u8) -> u8
-    ensures { result ≡ phase_number (idle_phase (optional_of next_event) (policy_of lifecycle)) }
+fn idle_phase(next_event: Tag, lifecycle: u8) -> CoordinationPhase
+    ensures { result ≡ idle_phase (optional_of next_event) (policy_of lifecycle) }
 {
     if !state::is_absent(next_event) {
-        return 0;
+        CoordinationPhase::Active
+    } else if lifecycle == 0 {
+        CoordinationPhase::Parked
+    } else {
+        CoordinationPhase::Probing
     }
-    if lifecycle == 0 {
-        return 4;
-    }
-    1
 }
 
 // The stored acquisition dropped.
@@ -159,7 +159,7 @@ pub fn announce(
     }
     let least = table::least_candidate(state);
     Some(Coordination {
-        phase: idle_phase(least, state.lifecycle),
+        phase: u8::from(idle_phase(least, state.lifecycle)),
         pending: true,
         pending_revision: coordination.revision,
         pending_next_event: least,

@@ -30,7 +30,7 @@ use Rattle.state.specs.Parts.{Sized, rebuilt, cleared, without_pending, with_coo
 use Rattle.state.specs.Decides.{neat_row, neat_parts}
 use Rattle.state.proofs.Rows.{length-rows, cell-set-same, cleared-within, rebuilt-tag-cases, neat-cell}
 
-and_parts : (a b : Bool) → T (a && b) ↔ (T a × T b)
+pub and_parts : (a b : Bool) → T (a && b) ↔ (T a × T b)
 and_parts a b = (λ h. (and_left a b h, and_right a b h), λ h. and_intro a b h.0 h.1)
 
 -- ---- a test at every place
@@ -125,7 +125,7 @@ pub record Neat (s : Held) : Type 0 where
   pub failure : T (is_zero_unless s.failed s.first_failure)
   pub policy : s.lifecycle ≤ 2
 
-four-parts : (a b c d : Bool) → T (a && b && c && d) ↔ (((T a × T b) × T c) × T d)
+pub four-parts : (a b c d : Bool) → T (a && b && c && d) ↔ (((T a × T b) × T c) × T d)
 four-parts a b c d = simp and_parts Iff.rfl
 
 seven-parts : (a b c d e f g : Bool) → T (a && b && c && d && e && f && g) ↔ ((((((T a × T b) × T c) × T d) × T e) × T f) × T g)

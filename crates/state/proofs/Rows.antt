@@ -453,7 +453,3 @@ rows-cleared s i p z n =
 
 pub rows-gate : (s : Held) (g : Gate) → g.granted ≡ s.gate.granted → rows_of (with_gate g s) ≡ rows_of s
 rows-gate s g e = same_rows s (with_gate g s) refl (λ j h. rw e refl)
-
-pub rows-rebuilt-gate : (s : Held) (i : ℕ) (p : Parts) (o : List ℕ) (g : Gate) → g.granted ≡ s.gate.granted
-    → rows_of (rebuilt s i p o g) ≡ rows_of (rebuilt s i p o s.gate)
-rows-rebuilt-gate s i p o g e = rows-gate (rebuilt s i p o s.gate) g e

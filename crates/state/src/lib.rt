@@ -15,6 +15,8 @@ pub const COMPLETED: usize = 32;
 
 pub const STARTED: usize = 64;
 
+// Kept: here and below, numbers for phases, policies and observations, a flag beside its number, marks of absent tags and parallel columns with a count
+// beside: it is how the C interface and the host lay the state out.
 // Revision, phase, idle authorization and pending publication.
 #[repr(C)]
 #[derive(Clone, Copy)]
@@ -153,6 +155,7 @@ pub fn absent() -> Tag
 }
 
 // The cell of a tag that may be absent.
+// Kept: a function, as `optional_of` is. Neither Tag nor Option is of this crate, so that no `From` can stand here.
 pub fn cell_of(tag: Option<Tag>) -> Tag
     ensures { result ≡ cell_of tag }
 {

@@ -50,9 +50,6 @@ module _ {A : Type 0} (walk : ℕ → ℕ → A) (n : ℕ) where
 
 -- ---- up: all (for crate observation), the first place
 
-pub all_start : (f : ℕ → Bool) (n : ℕ) → all_of f 0 n ≡ all_of f 0 (n - 0)
-all_start f = start (all_of f)
-
 pub place-start : (f : ℕ → Bool) (n : ℕ) → place_from f 0 n ≡ place_from f 0 (n - 0)
 place-start f = start (place_from f)
 
@@ -117,10 +114,6 @@ within-next i n h = go (ltb (i + 1) n) refl
     go : (b : Bool) → ltb (i + 1) n ≡ b → cond b (i + 1) n ≡ i + 1
     go true q = refl
     go false q = let z = ltb-false (i + 1) n q in omega arith
-
-pub clear_none : (n : ℕ) (l : List ℕ) → l ≡ cleared (within 0 n) l
-clear_none zero l = refl
-clear_none (suc n) l = rw (lt-ltb 0 (suc n) (omega arith)) refl
 
 pub clear_within : (l m : List ℕ) (i n : ℕ) → i < length l → i < n → m ≡ cleared (within i n) l → set m i 0 ≡ cleared (within (i + 1) n) l
 clear_within l m i n h k e = rw (e, lt-ltb i n k, within-next i n k) (clear-turn l i h)
@@ -204,18 +197,12 @@ module _ {pick : Tag → Tag → Tag} {join : Option Tag → Option Tag → Opti
         → r ≡ cond (is_absent c) acc (cond (is_absent acc) c (pick c acc)) → Means r (over (i - 1) (n - (i - 1)))
     fold-back i acc c r h k p e q = let b : i - 1 + 1 ≡ i = omega arith in rw (q, back over n i h k, w.next, b, ← e) (means-join c acc _ p)
 
-    pub fold_done : (i : ℕ) (acc : Tag) → i ≤ 0 → Means acc (over i (n - i)) → acc ≡ cell_of (over 0 n)
-    fold_done i acc h p = means-cell p ∙ ap cell_of (whole over n i h)
-
 -- ---- down: all
 
 module _ (f : ℕ → Bool) (n : ℕ) where
   pub every-start : all_of f n (n - n) ≡ true
   unfolding all_of
   every-start = done (all_of f) n n (omega arith)
-
-  pub every-done : (i : ℕ) → i ≤ 0 → {w : Bool} → all_of f i (n - i) ≡ w → all_of f 0 n ≡ w
-  every-done i h p = sym (whole (all_of f) n i h) ∙ p
 
   module _ (i : ℕ) (h : 0 < i) (k : i ≤ n) where
     pub every_back : {w s : Bool} → all_of f i (n - i) ≡ w → f (i - 1) ≡ s → all_of f (i - 1) (n - (i - 1)) ≡ (s && w)
@@ -262,9 +249,6 @@ module _ (b a : ℕ → Bool) (n : ℕ) where
   unfolding any_of
   scan-start = (done (any_of b) n n (omega arith), every-start a n)
 
-  pub scan-done : (i : ℕ) (w : Bool) → i ≤ 0 → Passed b a n i w → cond w Answered Waiting ≡ outcome
-  scan-done i w h p = rw (← whole (any_of b) n i h, p.0, every-done a n i h p.1) refl
-
   module _ (i : ℕ) (h : 0 < i) (k : i ≤ n) where
     pub scan-blocked : b (i - 1) ≡ true → Blocked ≡ outcome
     unfolding any_of
@@ -288,13 +272,6 @@ greater-swap (Some a) (Some b) (Some c) = ap Some (ap (λ t. greater_of t c) (gr
 module _ (f : ℕ → Tag) (n : ℕ) (h : Tag) where
   abbrev upper : ℕ → ℕ → Option Tag
   upper = greatest_from (λ j. optional_of (f j))
-
-  pub front-missing : is_absent h ≡ true → absent ≡ cell_of (lesser_of_both (upper 0 n) (optional_of h))
-  front-missing e = rw e (go (upper 0 n))
-    where
-      go : (m : Option Tag) → absent ≡ cell_of (lesser_of_both m None)
-      go None = refl
-      go (Some a) = refl
 
   -- acc is the greatest of the places before i, none of which has reached h
   pub record Ahead (i : ℕ) (acc : Tag) : Type 0 where

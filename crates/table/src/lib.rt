@@ -61,13 +61,14 @@ pub fn clear(cells: &mut [u8; 32], count: usize)
     requires { count ≤ 32 }
     ensures { cells.new ≡ cleared count cells.old }
 {
-    // All cells are walked, which the back end does at once; up to the count it would call a function of the C library.
+    // All cells are walked and stored, which the back end does at once; up to the count it would call a function of the C library.
     for (i, cell) in cells.iter_mut().enumerate() {
         *cell = if i < count { 0 } else { *cell };
     }
 }
 
 // The lesser of two cells where an absent one does not count.
+// Kept: `lesser_cell` and `greater_cell`. One function over the choice would promise three cases of what its parameter promises, in place of one term.
 pub fn lesser_cell(a: Tag, b: Tag) -> Tag
     ensures { result ≡ cond (is_absent a) b (cond (is_absent b) a (lesser_of a b)) }
 {
