@@ -13,11 +13,6 @@ use Rattle.octets.proofs.Runs.{put-append, put_whole, written-fits}
 use Rattle.actions.specs.Record.{fields_of, head_bytes, optional_bytes, bytes_of, record_of, records_of}
 use Rattle.actions.specs.declared.Fields.{Fields}
 
--- a flag adds at most its value
-pub flag-le : (raised : Bool) (value : ℕ) → cond raised value 0 ≤ value
-flag-le true value = omega arith
-flag-le false value = omega arith
-
 pub length-optional : (m : Option Tag) → length (optional_bytes m) ≡ 20
 length-optional None = refl
 length-optional (Some t) = refl

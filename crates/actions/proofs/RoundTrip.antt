@@ -1,6 +1,6 @@
 -- The demands of specs/Demands.antt. An action's own fields, read from its record, make the action again, and the reader confirms it; what
 -- the reader confirms is a record by its very test; so 28 is given exactly where there is none. Assumes nothing.
-use Rattle.std.specs.Prelude.{None, Option, Some}
+use Rattle.std.specs.Prelude.{None, Option, Some, Result, Ok, Err}
 use mathlib.Core.Path.{◌≡◌, refl, sym, ap, ◌∙◌}
 use mathlib.Core.Bool.{Bool, true, false, cond, ◌&&◌}
 use mathlib.Core.List.{List, [], ◌∷◌, ◌++◌, append_assoc}
@@ -13,7 +13,7 @@ use lib.Seq.{take_at, drop_at, drop-drop}
 use borrow.Author.Tests.{ltb-true}
 use mir.Syntax.{w32, w64}
 use mir.Val.{Fits}
-use mir.Facts.{Fits-lit, Fits-of_z, sfits_to_z}
+use mir.Facts.{Fits-lit, Fits-of_z, sfits_to_z, to_z-of_z}
 use Rattle.tags.specs.declared.Tag.{Tag}
 use Rattle.records.specs.declared.CoordinationAction.{CoordinationAction}
 use Rattle.records.specs.declared.CoordinationAction.TheVariants as action
@@ -21,12 +21,11 @@ use Rattle.octets.specs.LittleEndian.{AreBytes, num_at}
 use Rattle.octets.specs.Runs.{same_bytes}
 use Rattle.octets.proofs.LittleEndian.{unle-le, num-below}
 use Rattle.octets.proofs.Runs.{same_refl, same-equal}
-use Rattle.octets.proofs.Signed.{signed-bits}
 use Rattle.actions.specs.Record.{fields, tag_bytes, bytes_of, record_of, records_of, proper_action}
 use Rattle.actions.specs.Reading.{enclave_at, tag_at, optional_at, flag_at, publication_at, candidate_of, confirmed, read_action, read_number}
 use Rattle.actions.specs.Demands.{FitsTag, FitsOptional, FitsWidths, Writable, ReadWrite, ReadWriteEach, RecordsDiffer, WriteRead, NoRecord, Refused28}
-use Rattle.actions.specs.declared.ReadAction.{ReadAction}
-use Rattle.actions.specs.declared.ReadAction.TheVariants.{Action, NoActionRecord}
+use Rattle.records.specs.declared.Refusal.{Refusal}
+use Rattle.records.specs.declared.Refusal.TheVariants.{NoActionRecord}
 use Rattle.actions.proofs.Reading.{read_short, read-confirmed}
 use Rattle.actions.proofs.Record.{length-record}
 
@@ -37,8 +36,8 @@ tag_back t f =
       unle-le 8 _ (Fits-of_z f.seconds).fits,
       unle-le 4 _ (Fits-of_z f.nanoseconds).fits,
       unle-le 8 t.microstep f.microstep.fits,
-      signed-bits w64 t.seconds f.seconds,
-      signed-bits w32 t.nanoseconds f.nanoseconds,
+      to_z-of_z f.seconds,
+      to_z-of_z f.nanoseconds,
     )
 
 -- the flags that are read back are those that were written
@@ -55,10 +54,10 @@ publication-back r (Some t) None later f g h = rw (unle-le 8 r f.fits, tag_back 
 publication-back r (Some t) (Some u) later f g h = rw (unle-le 8 r f.fits, tag_back t g, tag_back u h)
 
 -- the candidate of an action's own record is the action
-candidate-back : (a : CoordinationAction) (later : List ℕ) → FitsWidths a → candidate_of (get_or (record_of a ++ later) 0 0) (record_of a ++ later) ≡ Action a
+candidate-back : (a : CoordinationAction) (later : List ℕ) → FitsWidths a → candidate_of (get_or (record_of a ++ later) 0 0) (record_of a ++ later) ≡ Some a
 unfolding record_of bytes_of
 candidate-back (action.Publish p) later f =
-    ap (λ q. Action (action.Publish q)) (publication-back p.revision p.next_event p.grant_horizon later f.number f.first f.second)
+    ap (λ q. Some (action.Publish q)) (publication-back p.revision p.next_event p.grant_horizon later f.number f.first f.second)
 candidate-back (action.AdvanceHorizon t) later f = rw (tag_back t f.first)
 candidate-back (action.Grant e t) later f = rw (unle-le 4 e f.enclave.fits, tag_back t f.first)
 candidate-back (action.Complete c) later f = rw (network-back c.network_input, tag_back c.completed f.first)
@@ -96,8 +95,8 @@ read-write-each l i other later h w =
 
 pub records-differ : RecordsDiffer
 records-differ a b v w e =
-    let p : read_action (record_of a ++ []) ≡ Action a = read-write a [] v in
-    let q : read_action (record_of b ++ []) ≡ Action b = read-write b [] w in
+    let p : read_action (record_of a ++ []) ≡ Ok a = read-write a [] v in
+    let q : read_action (record_of b ++ []) ≡ Ok b = read-write b [] w in
     cc
 
 -- numbers read from bytes are of their widths
@@ -120,12 +119,12 @@ module _ (s : List ℕ) (h : AreBytes s) where
   optional-fits false at = tt
 
   -- the action read is the one of some kind, or that of a later one
-  kind_fits : {x a : CoordinationAction} {others : ReadAction} (here : Bool) → FitsWidths x → (others ≡ Action a → FitsWidths a)
-      → cond here (Action x) others ≡ Action a → FitsWidths a
+  kind_fits : {x a : CoordinationAction} {others : Option CoordinationAction} (here : Bool) → FitsWidths x → (others ≡ Some a → FitsWidths a)
+      → cond here (Some x) others ≡ Some a → FitsWidths a
   kind_fits {x} {a} true f g e = let same : x ≡ a = cc in rw same at f
   kind_fits false f g e = g e
 
-  candidate-fits : (kind : ℕ) (a : CoordinationAction) → candidate_of kind s ≡ Action a → FitsWidths a
+  candidate-fits : (kind : ℕ) (a : CoordinationAction) → candidate_of kind s ≡ Some a → FitsWidths a
   candidate-fits kind a =
       kind_fits (eqb kind 1) record { enclave = Fits-lit tt; number = number_fits 8; first = optional-fits (flag_at 1 s) 16; second = optional-fits (flag_at 2 s) 36 }
       (kind_fits (eqb kind 2) record { enclave = Fits-lit tt; number = Fits-lit tt; first = tag_fits 16; second = tt }
@@ -138,37 +137,55 @@ module _ (s : List ℕ) (h : AreBytes s) where
       (kind_fits (eqb kind 9) record { enclave = enclave-fits; number = number_fits 8; first = tt; second = tt }
       (kind_fits (eqb kind 10) record { enclave = Fits-lit tt; number = Fits-lit tt; first = tt; second = tt }
       (kind_fits (eqb kind 11) record { enclave = Fits-lit tt; number = Fits-lit tt; first = tt; second = tt }
-      (λ e. let z : ◌≡◌ {A = ℕ} 0 1 = cc in absurd (omega arith))))))))))))
+      (λ e. cc)))))))))))
 
 -- what the reader's test says of the action that it confirms
 confirmed-both : (same proper : Bool) (b a : CoordinationAction)
-    → cond (same && proper) (Action b) NoActionRecord ≡ Action a → (same ≡ true) × (proper ≡ true) × (b ≡ a)
+    → ◌≡◌ {A = Result CoordinationAction Refusal} (cond (same && proper) (Ok b) (Err NoActionRecord)) (Ok a) → (same ≡ true) × (proper ≡ true) × (b ≡ a)
 confirmed-both true true b a e = (refl, refl, cc)
-confirmed-both true false b a e = let z : ◌≡◌ {A = ℕ} 0 1 = cc in absurd (omega arith)
-confirmed-both false proper b a e = let z : ◌≡◌ {A = ℕ} 0 1 = cc in absurd (omega arith)
+confirmed-both true false b a e = cc
+confirmed-both false proper b a e = cc
 
-confirmed-is : (s : List ℕ) (found : ReadAction) (a : CoordinationAction) → confirmed s found ≡ Action a
-    → (found ≡ Action a) × (take 56 s ≡ record_of a) × (proper_action a ≡ true)
+confirmed-is : (s : List ℕ) (found : Option CoordinationAction) (a : CoordinationAction) → confirmed s found ≡ Ok a
+    → (found ≡ Some a) × (take 56 s ≡ record_of a) × (proper_action a ≡ true)
 unfolding confirmed
-confirmed-is s NoActionRecord a e = let z : ◌≡◌ {A = ℕ} 0 1 = cc in absurd (omega arith)
-confirmed-is s (Action b) a e =
+confirmed-is s None a e = cc
+confirmed-is s (Some b) a e =
     let r = confirmed-both (same_bytes (record_of b) (take 56 s)) (proper_action b) b a e in
     let same : record_of b ≡ take 56 s = same-equal (record_of b) (take 56 s) r.0 in
-    (ap Action r.2, sym same ∙ ap record_of r.2, sym (ap proper_action r.2) ∙ r.1)
+    (ap Some r.2, sym same ∙ ap record_of r.2, sym (ap proper_action r.2) ∙ r.1)
 
 pub write_read : WriteRead
 unfolding read_action
 write_read s a h e = long (leb 56 (length s)) e
   where
-    long : (b : Bool) → cond b (confirmed s (candidate_of (get_or s 0 0) s)) NoActionRecord ≡ Action a → (take 56 s ≡ record_of a) × Writable a
+    long : (b : Bool) → cond b (confirmed s (candidate_of (get_or s 0 0) s)) (Err NoActionRecord) ≡ Ok a → (take 56 s ≡ record_of a) × Writable a
     long true d =
         let r = confirmed-is s (candidate_of (get_or s 0 0) s) a d in
         (r.1, record { widths = candidate-fits s h (get_or s 0 0) a r.0; proper = r.2 })
-    long false d = let z : ◌≡◌ {A = ℕ} 0 1 = cc in absurd (omega arith)
+    long false d = cc
 
 -- bytes that begin with an action's record are read as that action
-begins-read : (s : List ℕ) (a : CoordinationAction) → Writable a → take 56 s ≡ record_of a → read_action s ≡ Action a
+begins-read : (s : List ℕ) (a : CoordinationAction) → Writable a → take 56 s ≡ record_of a → read_action s ≡ Ok a
 begins-read s a w e = ap read_action (sym (take-append-drop 56 s) ∙ ap (λ l. l ++ drop 56 s) e) ∙ read-write a (drop 56 s) w
+
+-- reading refuses with 28 alone
+confirmed-28 : (s : List ℕ) (found : Option CoordinationAction) (r : Refusal) → confirmed s found ≡ Err r → r ≡ NoActionRecord
+unfolding confirmed
+confirmed-28 s None r e = cc
+confirmed-28 s (Some b) r e = by (same_bytes (record_of b) (take 56 s) && proper_action b) e
+  where
+    by : (ok : Bool) → ◌≡◌ {A = Result CoordinationAction Refusal} (cond ok (Ok b) (Err NoActionRecord)) (Err r) → r ≡ NoActionRecord
+    by true d = cc
+    by false d = cc
+
+read-28 : (s : List ℕ) (r : Refusal) → read_action s ≡ Err r → r ≡ NoActionRecord
+unfolding read_action
+read-28 s r e = long (leb 56 (length s)) e
+  where
+    long : (b : Bool) → cond b (confirmed s (candidate_of (get_or s 0 0) s)) (Err NoActionRecord) ≡ Err r → r ≡ NoActionRecord
+    long true d = confirmed-28 s (candidate_of (get_or s 0 0) s) r d
+    long false d = cc
 
 pub refused-28 : Refused28
 refused-28 s h = (refused, none)
@@ -184,6 +201,6 @@ refused-28 s h = (refused, none)
     none (inl short) = ap read_number (sym (read_short s short))
     none (inr other) = found (read_action s) refl
       where
-        found : (r : ReadAction) → read_action s ≡ r → read_number r ≡ 28
-        found NoActionRecord e = refl
-        found (Action a) e = let w = write_read s a h e in absurd (other a w.1 w.0)
+        found : (r : Result CoordinationAction Refusal) → read_action s ≡ r → read_number r ≡ 28
+        found (Err r) e = ap (λ x. read_number (Err x)) (read-28 s r e)
+        found (Ok a) e = let w = write_read s a h e in absurd (other a w.1 w.0)

@@ -1,6 +1,6 @@
 -- What holds of action records beyond the promises (document 01, "Action record" and refusal 28), stated; proofs/RoundTrip.antt proves each.
 -- Assumes nothing.
-use Rattle.std.specs.Prelude.{ℕ, ◌*◌, ◌<◌, ◌≡◌, true, List, ◌++◌, ◌⊎◌, length, take, drop, get_or, None, Option, Some}
+use Rattle.std.specs.Prelude.{ℕ, ◌*◌, ◌<◌, ◌≡◌, true, List, ◌++◌, ◌⊎◌, length, take, drop, get_or, None, Option, Some, Ok}
 use Rattle.std.specs.Int.{w32, w64}
 use Rattle.std.proofs.Common.{Fits, SFits}
 use Rattle.tags.specs.declared.Tag.{Tag}
@@ -8,7 +8,6 @@ use Rattle.records.specs.declared.CoordinationAction.{CoordinationAction}
 use Rattle.octets.specs.LittleEndian.{AreBytes}
 use Rattle.actions.specs.Record.{fields_of, record_of, records_of, proper_action}
 use Rattle.actions.specs.Reading.{read_action, read_number}
-use Rattle.actions.specs.declared.ReadAction.TheVariants.{Action}
 
 pub record FitsTag (t : Tag) : Type 0 where
   pub seconds : SFits w64 t.seconds
@@ -33,13 +32,13 @@ pub record Writable (a : CoordinationAction) : Type 0 where
 
 -- an action's record reads back as the action, whatever follows it
 abbrev pub ReadWrite : Type 0
-ReadWrite = (a : CoordinationAction) (later : List ℕ) → Writable a → read_action (record_of a ++ later) ≡ Action a
+ReadWrite = (a : CoordinationAction) (later : List ℕ) → Writable a → read_action (record_of a ++ later) ≡ Ok a
 
 -- of records that stand one right after the other, the i-th reads back as the i-th action
 abbrev pub ReadWriteEach : Type 0
 ReadWriteEach =
     (l : List CoordinationAction) (i : ℕ) (other : CoordinationAction) (later : List ℕ) → i < length l → Writable (get_or l i other)
-    → read_action (drop (56 * i) (records_of l ++ later)) ≡ Action (get_or l i other)
+    → read_action (drop (56 * i) (records_of l ++ later)) ≡ Ok (get_or l i other)
 
 -- two actions never share a record
 abbrev pub RecordsDiffer : Type 0
@@ -47,7 +46,7 @@ RecordsDiffer = (a b : CoordinationAction) → Writable a → Writable b → rec
 
 -- bytes that read as an action are that action's record, and an action with such a record can be written
 abbrev pub WriteRead : Type 0
-WriteRead = (s : List ℕ) (a : CoordinationAction) → AreBytes s → read_action s ≡ Action a → (take 56 s ≡ record_of a) × Writable a
+WriteRead = (s : List ℕ) (a : CoordinationAction) → AreBytes s → read_action s ≡ Ok a → (take 56 s ≡ record_of a) × Writable a
 
 -- "28: under 56 bytes, or the first 56 are none that an action with proper tags and 32-bit enclave writes"
 abbrev pub NoRecord : List ℕ → Type 0

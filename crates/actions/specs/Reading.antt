@@ -1,23 +1,23 @@
 -- Document 01, "Action record" and refusal 28: what reading the bytes of a record finds. Assumes nothing.
-use Rattle.std.specs.Prelude.{ℕ, ◌+◌, ◌/◌, ◌%◌, Bool, cond, ◌&&◌, List, leb, eqb, length, take, get_or, None, Option, Some}
+use Rattle.std.specs.Prelude.{ℕ, ◌+◌, ◌/◌, ◌%◌, Bool, cond, ◌&&◌, List, leb, eqb, length, take, get_or, None, Option, Some, Result, Ok, Err}
 use Rattle.std.specs.Int.{w32, w64}
 use Rattle.std.proofs.Common.{to_z}
 use Rattle.tags.specs.declared.Tag.{Tag}
 use Rattle.records.specs.Numbers.{refusal_number}
 use Rattle.records.specs.declared.FederatePublication.{FederatePublication}
 use Rattle.records.specs.declared.FederateCompletion.{FederateCompletion}
+use Rattle.records.specs.declared.CoordinationAction.{CoordinationAction}
 use Rattle.records.specs.declared.CoordinationAction.TheVariants as action
+use Rattle.records.specs.declared.Refusal.{Refusal}
 use Rattle.records.specs.declared.Refusal.TheVariants as refusal
 use Rattle.octets.specs.LittleEndian.{num_at}
 use Rattle.octets.specs.Runs.{same_bytes}
 use Rattle.actions.specs.Record.{record_of, proper_action}
-use Rattle.actions.specs.declared.ReadAction.{ReadAction}
-use Rattle.actions.specs.declared.ReadAction.TheVariants.{Action, NoActionRecord}
 
 -- the refusal number of each case
-abbrev pub read_number : ReadAction → ℕ
-read_number (Action a) = refusal_number None
-read_number NoActionRecord = refusal_number (Some refusal.NoActionRecord)
+abbrev pub read_number : Result CoordinationAction Refusal → ℕ
+read_number (Ok a) = refusal_number None
+read_number (Err r) = refusal_number (Some r)
 
 -- the fields at their places
 abbrev pub flag_at : ℕ → List ℕ → Bool
@@ -42,26 +42,26 @@ abbrev pub completion_at : List ℕ → FederateCompletion
 completion_at s = record { completed = tag_at s 16; network_input = flag_at 4 s }
 
 -- the one action of that kind whose record can stand here, by the fields that the kind uses
-abbrev pub candidate_of : ℕ → List ℕ → ReadAction
+abbrev pub candidate_of : ℕ → List ℕ → Option CoordinationAction
 candidate_of kind s =
-    cond (eqb kind 1) (Action (action.Publish (publication_at s)))
-    (cond (eqb kind 2) (Action (action.AdvanceHorizon (tag_at s 16)))
-    (cond (eqb kind 3) (Action (action.Grant (enclave_at s) (tag_at s 16)))
-    (cond (eqb kind 4) (Action (action.Complete (completion_at s)))
-    (cond (eqb kind 5) (Action (action.CompletionProbe (enclave_at s) (number_at s)))
-    (cond (eqb kind 6) (Action (action.Probe (number_at s)))
-    (cond (eqb kind 7) (Action (action.Park (number_at s)))
-    (cond (eqb kind 8) (Action (action.Recheck (number_at s)))
-    (cond (eqb kind 9) (Action (action.Resume (enclave_at s) (number_at s)))
-    (cond (eqb kind 10) (Action action.Stop)
-    (cond (eqb kind 11) (Action action.Abort) NoActionRecord))))))))))
+    cond (eqb kind 1) (Some (action.Publish (publication_at s)))
+    (cond (eqb kind 2) (Some (action.AdvanceHorizon (tag_at s 16)))
+    (cond (eqb kind 3) (Some (action.Grant (enclave_at s) (tag_at s 16)))
+    (cond (eqb kind 4) (Some (action.Complete (completion_at s)))
+    (cond (eqb kind 5) (Some (action.CompletionProbe (enclave_at s) (number_at s)))
+    (cond (eqb kind 6) (Some (action.Probe (number_at s)))
+    (cond (eqb kind 7) (Some (action.Park (number_at s)))
+    (cond (eqb kind 8) (Some (action.Recheck (number_at s)))
+    (cond (eqb kind 9) (Some (action.Resume (enclave_at s) (number_at s)))
+    (cond (eqb kind 10) (Some action.Stop)
+    (cond (eqb kind 11) (Some action.Abort) None))))))))))
 
 -- an action is read only where the first 56 bytes are its record and its tags are proper
-unfoldable pub confirmed : List ℕ → ReadAction → ReadAction
-confirmed s NoActionRecord = NoActionRecord
-confirmed s (Action a) = cond (same_bytes (record_of a) (take 56 s) && proper_action a) (Action a) NoActionRecord
+unfoldable pub confirmed : List ℕ → Option CoordinationAction → Result CoordinationAction Refusal
+confirmed s None = Err refusal.NoActionRecord
+confirmed s (Some a) = cond (same_bytes (record_of a) (take 56 s) && proper_action a) (Ok a) (Err refusal.NoActionRecord)
 
 -- "28: under 56 bytes, or the first 56 are none that an action with proper tags and 32-bit enclave writes"
-unfoldable pub read_action : List ℕ → ReadAction
+unfoldable pub read_action : List ℕ → Result CoordinationAction Refusal
 unfolding confirmed
-read_action s = cond (leb 56 (length s)) (confirmed s (candidate_of (get_or s 0 0) s)) NoActionRecord
+read_action s = cond (leb 56 (length s)) (confirmed s (candidate_of (get_or s 0 0) s)) (Err refusal.NoActionRecord)

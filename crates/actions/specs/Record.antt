@@ -1,5 +1,5 @@
 -- Document 01, "Action record, 56 bytes, little-endian": the bytes that an action writes. Assumes nothing.
-use Rattle.std.specs.Prelude.{ℕ, zero, suc, ◌+◌, Bool, false, cond, ◌&&◌, List, [], ◌∷◌, ◌++◌, replicate, get_or, None, Option, Some}
+use Rattle.std.specs.Prelude.{ℕ, ◌+◌, Bool, false, cond, ◌&&◌, List, [], ◌∷◌, ◌++◌, replicate, None, Option, Some}
 use Rattle.std.specs.Int.{w32, w64}
 use Rattle.std.proofs.Common.{of_z}
 use Rattle.tags.specs.Tags.{is_present, proper_if_present}
@@ -63,11 +63,3 @@ records_of (a ∷ rest) = record_of a ++ records_of rest
 -- all tags of the action are proper
 abbrev pub proper_action : CoordinationAction → Bool
 proper_action a = proper_if_present (fields_of a).first && proper_if_present (fields_of a).second
-
--- k elements from index i on, 0 past the end: as the code takes the bytes of a field out of an array
-abbrev pub elements : ℕ → ℕ → List ℕ → List ℕ
-elements zero i s = []
-elements (suc k) i s = get_or s i 0 ∷ elements k (suc i) s
-
-abbrev pub first_of : ℕ → List ℕ → List ℕ
-first_of k s = elements k 0 s

@@ -40,8 +40,8 @@ fn asked(
         refusal: records::refusal_number(refusal),
         present,
         number,
-        first: plain::tag_numbers(first),
-        second: plain::tag_numbers(second),
+        first: TagNumbers::from(first),
+        second: TagNumbers::from(second),
     }
 }
 

@@ -1,6 +1,5 @@
 // The calls that take no state: openings, `delay`, the verdicts, and action records written and read.
 use crate::say::{say, say_bool, say_number, say_tag};
-use actions::ReadAction;
 use delay::Duration;
 use records::{CoordinationAction, CoordinationPhase, LifecyclePolicy, Observation};
 use state::FederateCoordinationState;
@@ -77,10 +76,9 @@ pub fn verdicts<W: Write>(out: &mut W) -> io::Result<()> {
 
 // The kind of the action that was read, or 28.
 fn say_read<W: Write>(out: &mut W, bytes: &[u8]) -> io::Result<()> {
-    let found = actions::read_action(bytes);
-    match found {
-        ReadAction::NoActionRecord => say(out, b" 28"),
-        ReadAction::Action(action) => say_number(out, u8::from(action) as u64),
+    match actions::read_action(bytes) {
+        Err(refusal) => say_number(out, u8::from(refusal) as u64),
+        Ok(action) => say_number(out, u8::from(action) as u64),
     }
 }
 

@@ -11,32 +11,12 @@ pub fn say_number<W: Write>(out: &mut W, number: u64) -> io::Result<()> {
     write!(out, " {number}")
 }
 
-fn say_seconds<W: Write>(out: &mut W, number: i64) -> io::Result<()> {
-    let bits = octets::bits64(number);
-    if number < 0 {
-        say(out, b" -")?;
-        let size = std::num::wrapping_sub_u64(0, bits);
-        return write!(out, "{size}");
-    }
-    say_number(out, bits)
-}
-
-fn say_nanoseconds<W: Write>(out: &mut W, number: i32) -> io::Result<()> {
-    let bits = octets::bits32(number);
-    if number < 0 {
-        say(out, b":-")?;
-        let size = std::num::wrapping_sub_u32(0, bits);
-        return write!(out, "{size}");
-    }
-    write!(out, ":{bits}")
-}
-
 // Seconds, nanoseconds and microstep joined by colons.
 pub fn say_tag<W: Write>(out: &mut W, tag: Tag) -> io::Result<()> {
+    let seconds = tag.seconds;
+    let nanoseconds = tag.nanoseconds;
     let microstep = tag.microstep;
-    say_seconds(out, tag.seconds)?;
-    say_nanoseconds(out, tag.nanoseconds)?;
-    write!(out, ":{microstep}")
+    write!(out, " {seconds}:{nanoseconds}:{microstep}")
 }
 
 // 1 for yes and 0 for no.

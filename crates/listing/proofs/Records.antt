@@ -11,7 +11,8 @@ use Rattle.rules.specs.Model.{CoordinationAction}
 use Rattle.rules.specs.Demands.{Each}
 use Rattle.actions.specs.Record.{record_of, records_of}
 use Rattle.actions.specs.Reading.{read_action}
-use Rattle.actions.specs.declared.ReadAction.TheVariants.{NoActionRecord}
+use Rattle.std.specs.Prelude.{Err}
+use Rattle.records.specs.declared.Refusal.TheVariants.{NoActionRecord}
 use Rattle.actions.specs.Demands.{Writable}
 use Rattle.printing.specs.Runs.{Puts}
 use Rattle.actions.proofs.Record.{length-record}
@@ -24,7 +25,7 @@ use Rattle.listing.specs.Records.{record_line, record_lines}
 pub part-read : (s : List ℕ) (from : ℕ) → read_action (take (length s - from) (drop from s)) ≡ read_action (drop from s)
 part-read s from = ap read_action (take_all (length s - from) (drop from s) (omega (arith, length-drop from s)))
 
-pub past-read : (s : List ℕ) (from : ℕ) → length s < from → read_action (drop from s) ≡ NoActionRecord
+pub past-read : (s : List ℕ) (from : ℕ) → length s < from → read_action (drop from s) ≡ Err NoActionRecord
 unfolding read_action
 past-read s from h = let past : length s ≤ from = omega arith in rw (drop_of_length-le s past)
 

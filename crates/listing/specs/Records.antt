@@ -1,14 +1,14 @@
 -- Document 01, "Script and its listing": an event's "action count; then its actions", as the lines of the records that its call wrote. Assumes nothing.
-use Rattle.std.specs.Prelude.{ℕ, zero, suc, List, [], ◌++◌, drop}
+use Rattle.std.specs.Prelude.{ℕ, zero, suc, List, [], ◌++◌, drop, Result, Ok, Err}
 use Rattle.actions.specs.Reading.{read_action}
-use Rattle.actions.specs.declared.ReadAction.{ReadAction}
-use Rattle.actions.specs.declared.ReadAction.TheVariants.{Action, NoActionRecord}
+use Rattle.records.specs.declared.CoordinationAction.{CoordinationAction}
+use Rattle.records.specs.declared.Refusal.{Refusal}
 use Rattle.listing.specs.Listing.{action_line}
 
 -- the line of what was read; nothing for what is no record
-abbrev pub record_line : ReadAction → List ℕ
-record_line (Action a) = action_line a
-record_line NoActionRecord = []
+abbrev pub record_line : Result CoordinationAction Refusal → List ℕ
+record_line (Ok a) = action_line a
+record_line (Err r) = []
 
 -- the lines of the first records, 56 bytes each
 unfoldable pub record_lines : ℕ → List ℕ → List ℕ

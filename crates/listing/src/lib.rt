@@ -10,9 +10,9 @@ ghost use Rattle.printing.specs.Runs.{Puts};
 ghost use Rattle.listing.specs.Listing.{action_line, event_line, end_line, misplaced_line, refused_line};
 ghost use Rattle.listing.specs.Records.{record_line, record_lines};
 
-use actions::ReadAction;
 use fields::Field;
 use records::{CoordinationAction, CoordinationPhase, Refusal};
+use tags::Tag;
 
 // Puts the action's line: its word, and what its kind carries.
 pub fn put_action(out: &mut [u8], at: usize, action: CoordinationAction) -> usize
@@ -59,10 +59,9 @@ fn put_record(out: &mut [u8], at: usize, records: &[u8], from: usize) -> usize
     if records.len() < from {
         return at;
     }
-    let found = actions::read_action(&records[from..]);
-    match found {
-        ReadAction::NoActionRecord => at,
-        ReadAction::Action(action) => put_action(out, at, action),
+    match actions::read_action(&records[from..]) {
+        Ok(action) => put_action(out, at, action),
+        Err(_) => at,
     }
 }
 

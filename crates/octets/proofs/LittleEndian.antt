@@ -1,12 +1,14 @@
 -- One law for every width: k bytes hold every number below 256 ^ k, and every k bytes are some number's. Assumes nothing.
-use mathlib.Core.Path.{◌≡◌, refl, ap}
+use mathlib.Core.Path.{◌≡◌, refl, ap, sym, ◌∙◌}
 use mathlib.Core.List.{List, [], ◌∷◌}
 use Prim.Native.Nat.{ℕ, zero, suc, ◌+◌, ◌*◌, ◌-◌, ◌/◌, ◌%◌, ◌^◌, ◌≤◌, ◌<◌}
 use native.Mathlib.Omega.{arith}
 use native.Mathlib.Nat.{pow-zero, pow-succ', pow-le-pow_right}
-use native.Mathlib.Numerals.{add-one, sub-one}
 use lib.Dec.{lit<}
-use lib.ListN.{length, get_or, get_or-eq_default}
+use lib.ListN.{length, take, get_or}
+use native.Mathlib.Nat.{div-one, div-div-eq-div-mul, mul_comm}
+use mir.Syntax.{w64}
+use Rattle.std.specs.Int.{bytes_low_first, to_le_bytes}
 use Rattle.octets.specs.LittleEndian.{AreBytes, le, unle, num_at}
 
 pub length-le : (k n : ℕ) → length (le k n) ≡ k
@@ -31,26 +33,31 @@ pub num-below : (k : ℕ) (s : List ℕ) (at : ℕ) → AreBytes s → num_at k 
 num-below zero s at h = rw (pow-zero 256) (omega arith)
 num-below (suc k) s at h = rw (pow-succ' 256 k) (omega (arith, h at, num-below k s (suc at) h))
 
--- a number read of no byte, of the first byte and the rest, and past the end
-pub num-none : (k : ℕ) (s : List ℕ) (at : ℕ) → k ≡ 0 → 0 ≡ num_at k s at
-num-none zero s at e = refl
-num-none (suc k) s at e = absurd (omega arith)
-
-pub num-step : (k : ℕ) (s : List ℕ) (at : ℕ) → 0 < k → num_at k s at ≡ get_or s at 0 + 256 * num_at (k - 1) s (at + 1)
-num-step zero s at h = absurd (omega arith)
-num-step (suc k) s at h = rw (add-one, sub-one)
-
-pub num-past : (k : ℕ) (s : List ℕ) (at : ℕ) → length s ≤ at → 0 ≡ num_at k s at
-num-past zero s at h = refl
-num-past (suc k) s at h = rw (get_or-eq_default s 0 h) (omega (arith, num-past k s (suc at) (omega arith)))
-
-pub pow_step : (k : ℕ) → 0 < k → 256 ^ k ≡ 256 * 256 ^ (k - 1)
-pow_step zero h = absurd (omega arith)
-pow_step (suc k) h = rw (pow-succ' 256 k, sub-one)
-
-pub pow-positive : (k : ℕ) → 0 < 256 ^ k
-pow-positive zero = rw (pow-zero 256) (omega arith)
-pow-positive (suc k) = rw (pow-succ' 256 k) (omega (arith, pow-positive k))
+-- one byte more in front, as the code reads them from the last one on: n stands in what came before it
+pub num_front : (m k at n b : ℕ) (s : List ℕ) → 0 < k → k ≤ m → b ≡ get_or s (at + (k - 1)) 0 → b < 256 → n ≡ num_at (m - k) s (at + k) → n < 256 ^ (m - k)
+    → (n * 256 + b ≡ num_at (m - (k - 1)) s (at + (k - 1))) × (n * 256 + b < 256 ^ (m - (k - 1)))
+num_front m zero at n b s p h e l v w = absurd (omega arith)
+num_front m (suc k) at n b s p h e l v w =
+    let back : suc k - 1 ≡ k = omega arith in
+    let j : m - k ≡ suc (m - suc k) = omega arith in
+    let i : at + suc k ≡ suc (at + k) = omega arith in
+    let here : b ≡ get_or s (at + k) 0 = e ∙ ap (λ (x : ℕ). get_or s (at + x) 0) back in
+    let more : n ≡ num_at (m - suc k) s (suc (at + k)) = v ∙ ap (num_at (m - suc k) s) i in
+    rw (back, j, pow-succ' 256 (m - suc k)) (omega arith, omega arith)
 
 pub pow_8 : (k : ℕ) → k ≤ 8 → 256 ^ k ≤ 2 ^ 64
 pow_8 k h = pow-le-pow_right {n = 256} (lit< tt) h
+
+-- std's bytes of a number are those, and so are as many of them as are asked for
+low_first : (i k n : ℕ) → bytes_low_first i k n ≡ le k (n / 256 ^ i)
+low_first i zero n = refl
+low_first zero (suc k) n = rw (pow-zero 256, div-one n, low_first (suc zero) k n)
+low_first (suc i) (suc k) n = let e : n / 256 ^ suc i / 256 ≡ n / 256 ^ suc (suc i) = div-div-eq-div-mul n (256 ^ suc i) 256 ∙ ap (λ m. n / m) (mul_comm (256 ^ suc i) 256 ∙ sym (pow-succ' 256 (suc i))) in ap (λ l. n / 256 ^ suc i % 256 ∷ l) (low_first (suc (suc i)) k n ∙ ap (le k) (sym e))
+
+take-le : (j k n : ℕ) → j ≤ k → take j (le k n) ≡ le j n
+take-le zero k n h = refl
+take-le (suc j) zero n h = absurd (omega arith)
+take-le (suc j) (suc k) n h = ap (λ l. n % 256 ∷ l) (take-le j k (n / 256) (omega arith))
+
+pub take_bytes : (k n : ℕ) → k ≤ 8 → take k (to_le_bytes w64 n) ≡ le k n
+take_bytes k n h = rw (low_first 0 8 n, pow-zero 256, div-one n) (take-le k 8 n h)

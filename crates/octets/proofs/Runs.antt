@@ -2,11 +2,11 @@
 use mathlib.Core.Path.{◌≡◌, refl, sym, ap, ◌∙◌}
 use mathlib.Core.Bool.{Bool, true, false, ◌&&◌}
 use mathlib.Core.List.{List, [], ◌∷◌, ◌++◌, append_assoc, append-nil}
-use Prim.Native.Nat.{ℕ, suc, ◌+◌, ◌≤◌, ◌<◌}
+use Prim.Native.Nat.{ℕ, ◌+◌, ◌≤◌, ◌<◌}
 use native.Mathlib.Omega.{arith}
 use lib.Dec.{eqb}
-use lib.ListN.{length, take, drop, get_or, length-append, drop_of_length-le}
-use lib.Seq.{paste, paste-zero, take_all, length-paste, length-take-le, take_at, drop_at, drop-drop, drop-cons}
+use lib.ListN.{length, take, drop, length-append, drop_of_length-le}
+use lib.Seq.{paste, paste-zero, take_all, length-paste, length-take-le, take_at, drop_at, drop-drop}
 use borrow.Author.Tests.{le-leb, lt-leb, eq-eqb, eqb-true}
 use Rattle.octets.specs.Runs.{put_at, fits_at, written, same_bytes}
 
@@ -80,11 +80,3 @@ same-lengths s t h = not-true (same_bytes s t) (λ e. h (ap length (same-equal s
     not-true : (b : Bool) → (b ≡ true → ⊥) → b ≡ false
     not-true true k = absurd (k refl)
     not-true false k = refl
-
--- the comparison from index i on, by the bytes there and the rest
-pub same_step : (s t : List ℕ) (i : ℕ) → i < length s → i < length t
-    → same_bytes (drop i s) (drop i t) ≡ (eqb (get_or s i 0) (get_or t i 0) && same_bytes (drop (suc i) s) (drop (suc i) t))
-same_step s t i p q = rw (drop-cons s i 0, drop-cons t i 0)
-
-pub same_end : (s t : List ℕ) (i : ℕ) → length s ≤ i → length t ≤ i → same_bytes (drop i s) (drop i t) ≡ true
-same_end s t i p q = rw (drop_of_length-le s p, drop_of_length-le t q)

@@ -51,7 +51,7 @@ pub fn list_next<R: Read, W: Write>(
     if streams::read_full(input, &mut head)? < 4 {
         return Ok(false);
     }
-    let n = octets::get4(&head, 0) as usize;
+    let n = u32::from_le_bytes(head) as usize;
     if text.len() < n {
         return Ok(false);
     }

@@ -1,11 +1,9 @@
 -- An action in numbers: what its record is made of. Assumes nothing.
 use Rattle.tags.specs.declared.Tag.{Tag}
-use Rattle.std.specs.Prelude.{Bool, false, ℕ, None, Option, Some}
+use Rattle.std.specs.Prelude.{Bool, false, ℕ, None, Option, Some, Result, Ok, Err}
 use Rattle.records.specs.Numbers.{refusal_number}
-use Rattle.records.specs.declared.Refusal.TheVariants as refusal
+use Rattle.records.specs.declared.Refusal.{Refusal}
 use Rattle.rules.specs.Model.{CoordinationAction}
-use Rattle.actions.specs.declared.ReadAction.{ReadAction}
-use Rattle.actions.specs.declared.ReadAction.TheVariants.{Action, NoActionRecord}
 use Rattle.actions.specs.Record.{fields_of}
 use Rattle.plain.specs.declared.ActionNumbers.{ActionNumbers}
 use Rattle.plain.specs.Tags.{tag_numbers}
@@ -27,6 +25,6 @@ action_numbers a =
     numbers_with (refusal_number None) (fields_of a).kind (fields_of a).enclave (fields_of a).number (fields_of a).first (fields_of a).second
     (fields_of a).network_input
 
-abbrev pub read_numbers : ReadAction → ActionNumbers
-read_numbers (Action a) = action_numbers a
-read_numbers NoActionRecord = numbers_with (refusal_number (Some refusal.NoActionRecord)) 0 0 0 None None false
+abbrev pub read_numbers : Result CoordinationAction Refusal → ActionNumbers
+read_numbers (Ok a) = action_numbers a
+read_numbers (Err r) = numbers_with (refusal_number (Some r)) 0 0 0 None None false

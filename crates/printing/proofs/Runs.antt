@@ -7,7 +7,7 @@ use native.Mathlib.Numerals.{add-one}
 use lib.ListN.{length, take, drop, set, length-append}
 use lib.Seq.{set_split, append_snoc}
 use Rattle.octets.specs.Runs.{put_at}
-use Rattle.octets.proofs.Runs.{put-append, put-nil, length-put}
+use Rattle.octets.proofs.Runs.{put-append, put-nil}
 use Rattle.printing.specs.Runs.{Puts}
 
 -- a run, and another one right after it
@@ -35,11 +35,3 @@ put-nothing l at most = record { after = omega arith; bytes = sym (put-nil l at)
 pub put_one : (l : List ℕ) (at b : ℕ) → at < length l → set l at b ≡ put_at l at (b ∷ [])
 unfolding put_at
 put_one l at b h = set_split l at b h ∙ rw (add-one at) (sym (append_snoc (take at l) b (drop (suc at) l)))
-
--- one byte right after a run, and a run right after one byte
-pub put-snoc : (l : List ℕ) (at : ℕ) (s : List ℕ) (b n : ℕ) → n ≡ at + length s → n < length l → set (put_at l at s) n b ≡ put_at l at (s ++ b ∷ [])
-put-snoc l at s b n e h =
-    put_one (put_at l at s) n b (rw (length-put l at s (omega arith)) h) ∙ put-append l at s (b ∷ []) n (sym e) (omega arith)
-
-pub put-cons : (l : List ℕ) (at b : ℕ) (s : List ℕ) → at + 1 + length s ≤ length l → put_at (set l at b) (at + 1) s ≡ put_at l at (b ∷ s)
-put-cons l at b s h = rw (put_one l at b (omega arith)) (put-append l at (b ∷ []) s (at + 1) refl h)

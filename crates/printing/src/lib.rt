@@ -14,7 +14,7 @@ pub fn put_text(out: &mut [u8], at: usize, run: &[u8]) -> usize
     requires { at + length run.now ≤ length out.old }
     ensures { Puts out.old at run.now (length run.now) result out.new }
 {
-    octets::copy_at(out, at, run);
+    octets::put_run(out, at, run);
     at + run.len()
 }
 
@@ -34,12 +34,10 @@ fn put_digits(out: &mut [u8], at: usize, n: u64, most: usize) -> usize
     ensures { Puts out.old at (digits_of most n) most result out.new }
 {
     if n < 10 {
-        out[at] = 48 + n as u8;
-        return at + 1;
+        return put_byte(out, at, b'0' + n as u8);
     }
     let last = put_digits(out, at, n / 10, most - 1);
-    out[last] = 48 + (n % 10) as u8;
-    last + 1
+    put_byte(out, last, b'0' + (n % 10) as u8)
 }
 
 // Puts n in decimal.
@@ -55,11 +53,11 @@ pub fn put_integer(out: &mut [u8], at: usize, z: i64) -> usize
     requires { at + 21 ≤ length out.old }
     ensures { Puts out.old at (integer z) 21 result out.new }
 {
-    if z >= 0 {
-        return put_decimal(out, at, z as u64);
+    if z < 0 {
+        let sign = put_byte(out, at, b'-');
+        return put_decimal(out, sign, z.unsigned_abs());
     }
-    out[at] = b'-';
-    put_decimal(out, at + 1, (!z) as u64 + 1)
+    put_decimal(out, at, z.unsigned_abs())
 }
 
 // Puts the tag's three numbers, joined by colons.
@@ -69,7 +67,7 @@ pub fn put_tag(out: &mut [u8], at: usize, tag: Tag) -> usize
 {
     let seconds = put_integer(out, at, tag.seconds);
     let colon = put_byte(out, seconds, b':');
-    let nanoseconds = put_integer(out, colon, tag.nanoseconds as i64);
+    let nanoseconds = put_integer(out, colon, i64::from(tag.nanoseconds));
     let second_colon = put_byte(out, nanoseconds, b':');
     put_decimal(out, second_colon, tag.microstep)
 }

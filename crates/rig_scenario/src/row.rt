@@ -34,7 +34,7 @@ fn tag_of(byte: u8) -> Option<Tag> {
         });
     }
     Some(Tag {
-        seconds: octets::signed64(digit(byte) as u64),
+        seconds: i64::from(digit(byte)),
         nanoseconds: 0,
         microstep: 0,
     })

@@ -1,7 +1,7 @@
 -- What a call writes can be read back (document 01, "Action record" and refusal 28): every action of a call can be written, so that the records that the
 -- call leaves in the room read as its actions. Only statements stand here; proofs/ReadBack.antt proves them, and proofs/Declared.antt that every
 -- declared state is of its widths. Assumes nothing.
-use Rattle.std.specs.Prelude.{ℕ, ◌*◌, ◌<◌, ◌≡◌, List, length, drop, get_or}
+use Rattle.std.specs.Prelude.{ℕ, ◌*◌, ◌<◌, ◌≡◌, List, length, drop, get_or, Ok}
 use Rattle.std.specs.Int.{w64}
 use Rattle.std.proofs.Common.{Fits}
 use Rattle.records.specs.declared.SchedulerMessage.{SchedulerMessage}
@@ -10,7 +10,6 @@ use Rattle.octets.specs.Runs.{put_at}
 use Rattle.actions.specs.Record.{records_of}
 use Rattle.actions.specs.Reading.{read_action}
 use Rattle.actions.specs.Demands.{FitsTag, FitsOptional, Writable}
-use Rattle.actions.specs.declared.ReadAction.TheVariants.{Action}
 use Rattle.rules.specs.Model.{CoordinationAction, Call, Given}
 use Rattle.rules.specs.Calls.{facts, take_step}
 use Rattle.rules.specs.Demands.{Each}
@@ -53,4 +52,4 @@ abbrev pub CallReadsBack : Type 0
 CallReadsBack =
     (room : List ℕ) (c : Call) (s : Held) (i : ℕ) (other : CoordinationAction) → StateFits s → CallFits c
     → i < length (actions_of (lent (length room) c) s)
-    → read_action (drop (56 * i) (put_at room 0 (records_of (actions_of (lent (length room) c) s)))) ≡ Action (get_or (actions_of (lent (length room) c) s) i other)
+    → read_action (drop (56 * i) (put_at room 0 (records_of (actions_of (lent (length room) c) s)))) ≡ Ok (get_or (actions_of (lent (length room) c) s) i other)

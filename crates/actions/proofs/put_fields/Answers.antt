@@ -10,6 +10,6 @@ unfolding bytes_of
 returns c = let a = c.args in
     c.put_run-3.ensures
     ∙ rw (c.put_run-2.ensures, c.put_run.ensures)
-    (rw (c.optional_bytes-second_tag.ensures, c.optional_bytes-tag.ensures, c.head_bytes-head.ensures)
+    (rw (c.optional_bytes-2.ensures, c.optional_bytes.ensures, c.head_bytes.ensures)
     (put_three a.room.now a.at (head_bytes a.f) (optional_bytes a.f.first) (optional_bytes a.f.second) refl
     (length-optional a.f.first) (length-optional a.f.second) (omega arith)))

@@ -15,7 +15,7 @@ use Rattle.fields.specs.declared.Field.TheVariants.{Number, Time}
 use Rattle.listing.specs.Listing.{event_line}
 use Rattle.fields.proofs.Lines.{then-line}
 use Rattle.listing.proofs.put_event.Goals as goal
-use Rattle.listing.proofs.put_event.Goals.{in-Silent, in-No, in-Yes}
+use Rattle.listing.proofs.put_event.Goals.{in-None, in-Some-true, in-Some-false}
 
 abbrev said_of : Option Bool → Field
 said_of None = Time None
@@ -39,9 +39,9 @@ returns c =
     let s = c.args in
     let said-is : c.match-answer.said ≡ said_of s.answer =
     elim c.match-answer.branch [
-      | in-None w ↦ w.said-is ∙ ap said_of (sym w.in-None.is)
-      | in-(Some false) w ↦ w.said-is ∙ ap said_of (sym w.in-(Some false).is)
-      | in-(Some true) w ↦ w.said-is ∙ ap said_of (sym w.in-(Some true).is)
+      | in-None w ↦ cc
+      | in-Some-true w ↦ cc
+      | in-Some-false w ↦ cc
     ] in
     let room : room_of c.match-answer.said ≤ 64 = rw said-is (said-room s.answer) in
     let three = words (Number (refusal_number s.refusal) ∷ c.match-answer.said ∷ Number s.actions ∷ []) in

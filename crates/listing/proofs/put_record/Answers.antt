@@ -9,7 +9,7 @@ pub returns-then-records-from : goal.returns-then-records-from
 returns-then-records-from c = let s = c.args in
     rw (past-read s.records.now s.from (omega arith)) (put-nothing s.out.now s.at 160)
 
-pub returns-in-NoActionRecord : goal.returns-in-NoActionRecord
-returns-in-NoActionRecord c = let s = c.args in
-    let found = sym (c.read_action-found.ensures ∙ part-read s.records.now s.from) ∙ c.in-NoActionRecord.is in
+pub returns-in-Err : goal.returns-in-Err
+returns-in-Err c = let s = c.args in
+    let found = sym (c.read_action.ensures ∙ part-read s.records.now s.from) ∙ c.in-Err.is in
     rw found (put-nothing s.out.now s.at 160)
