@@ -27,19 +27,7 @@ use Rattle.publication.proofs.Neat.{neat-revised, neat-unprobed, parts-of, parts
 
 -- the enclave unpublished, and these small parts
 abbrev unlisted : Parts → Coordination → Completion → Parts
-unlisted p c k = record {
-  row = record {
-    published = false;
-    candidate = p.row.candidate;
-    completed = p.row.completed;
-    acknowledged = p.row.acknowledged;
-    completion_observed = p.row.completion_observed;
-  };
-  coordination = c;
-  completion = k;
-  failed = p.failed;
-  first_failure = p.first_failure;
-}
+unlisted p c k = record p { row = record p.row { published = false }; coordination = c; completion = k }
 
 abbrev stopping : Parts → Decided
 stopping p = saying None (unlisted p p.coordination (unprobed_of p.completion))

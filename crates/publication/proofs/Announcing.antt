@@ -37,16 +37,8 @@ probes (Some t) l r = refl
 
 -- this phase, and this publication pending
 abbrev with_pending : Coordination → ℕ → Tag → Tag → Coordination
-with_pending c p t h = record {
-  revision = c.revision;
-  phase = p;
-  authorized = c.authorized;
-  idle_authorization = c.idle_authorization;
-  pending = true;
-  pending_revision = c.revision;
-  pending_next_event = t;
-  pending_grant_horizon = h;
-}
+with_pending c p t h =
+    record c { phase = p; pending = true; pending_revision = c.revision; pending_next_event = t; pending_grant_horizon = h }
 
 abbrev announced : Coordination → Tag → Tag → ℕ → Coordination
 announced c t h l = with_pending c (phase_number (idle_phase (optional_of t) (policy_of l))) t h

@@ -68,19 +68,7 @@ same-cell a m h k = go (is_absent a) refl m k
 
 -- the enclave published with this candidate, and these small parts
 abbrev listed : Parts → Tag → Coordination → Completion → Parts
-listed p t c k = record {
-  row = record {
-    published = true;
-    candidate = t;
-    completed = p.row.completed;
-    acknowledged = p.row.acknowledged;
-    completion_observed = p.row.completion_observed;
-  };
-  coordination = c;
-  completion = k;
-  failed = p.failed;
-  first_failure = p.first_failure;
-}
+listed p t c k = record p { row = record p.row { published = true; candidate = t }; coordination = c; completion = k }
 
 stored_row : (m : Option Tag) → T (proper_if_present m) → (p : Participant) → with_candidate (optional_of (cell_of m)) (with_published true p) ≡ store m p
 stored_row m h p = ap (λ (c : Option Tag). with_candidate c (with_published true p)) (optional-cell m h)

@@ -18,7 +18,7 @@ announcement e resume c =
 
 -- the stored acquisition dropped
 abbrev pub dropped_of : Gate → Gate
-dropped_of g = record { input_horizon = g.input_horizon; stored_revision = 0; stored_granted = absent; granted = g.granted }
+dropped_of g = record g { stored_revision = 0; stored_granted = absent }
 
 abbrev pub dropped_if : Bool → Gate → Gate
 dropped_if b g = cond b (dropped_of g) g

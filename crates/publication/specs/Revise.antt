@@ -20,10 +20,4 @@ revised_of c = record {
 
 -- "completion probe .. cleared"
 abbrev pub unprobed_of : Completion → Completion
-unprobed_of k = record {
-  completed_frontier = k.completed_frontier;
-  first_input = k.first_input;
-  last_input = k.last_input;
-  completion_generation = k.completion_generation;
-  completion_probe = absent;
-}
+unprobed_of k = record k { completion_probe = absent }

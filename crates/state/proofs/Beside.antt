@@ -8,22 +8,16 @@ use Rattle.state.specs.Beside.{Beside}
 
 -- t's columns with all the rest of s
 abbrev pub beside : Held → Held → Held
-beside t s = record {
+beside t s = record s {
   count = t.count;
   enclaves = t.enclaves;
   published = t.published;
-  observation = s.observation;
   acknowledged = t.acknowledged;
   completion_observed = t.completion_observed;
   seconds = t.seconds;
   nanoseconds = t.nanoseconds;
   microsteps = t.microsteps;
-  coordination = s.coordination;
-  completion = s.completion;
-  gate = s.gate;
   grant_horizon = t.grant_horizon;
-  failed = s.failed;
-  first_failure = s.first_failure;
   lifecycle = t.lifecycle;
 }
 

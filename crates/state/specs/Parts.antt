@@ -44,15 +44,11 @@ row_of s i = record {
 
 -- a participant with these cells
 abbrev pub row_put : Row → Participant → Participant
-row_put w p = record {
-  index = p.index;
+row_put w p = record p {
   candidate = optional_of w.candidate;
   completed = optional_of w.completed;
   published = w.published;
   completion_observed = number_if w.acknowledged w.completion_observed;
-  observation = p.observation;
-  granted = p.granted;
-  started = p.started;
 }
 
 abbrev pub parts_of : Held → ℕ → Parts
@@ -60,9 +56,7 @@ parts_of s i = record { row = row_of s i; coordination = s.coordination; complet
 
 -- the state with these parts at place i, these observations and this gate
 abbrev pub rebuilt : Held → ℕ → Parts → List ℕ → Gate → Held
-rebuilt s i p o g = record {
-  count = s.count;
-  enclaves = s.enclaves;
+rebuilt s i p o g = record s {
   published = set s.published i p.row.published;
   observation = o;
   acknowledged = set s.acknowledged i p.row.acknowledged;
@@ -73,10 +67,8 @@ rebuilt s i p o g = record {
   coordination = p.coordination;
   completion = p.completion;
   gate = g;
-  grant_horizon = s.grant_horizon;
   failed = p.failed;
   first_failure = p.first_failure;
-  lifecycle = s.lifecycle;
 }
 
 -- the state with this row's cells at place i
@@ -85,16 +77,8 @@ with_row s i w = rebuilt s i (record { row = w; coordination = s.coordination; c
 
 -- the phase, and "pending publication cleared"
 abbrev pub without_pending : ℕ → Coordination → Coordination
-without_pending phase c = record {
-  revision = c.revision;
-  phase = phase;
-  authorized = c.authorized;
-  idle_authorization = c.idle_authorization;
-  pending = false;
-  pending_revision = 0;
-  pending_next_event = absent;
-  pending_grant_horizon = absent;
-}
+without_pending phase c =
+    record c { phase = phase; pending = false; pending_revision = 0; pending_next_event = absent; pending_grant_horizon = absent }
 
 -- the observations of the first n places cleared
 abbrev pub cleared : ℕ → List ℕ → List ℕ
@@ -103,10 +87,10 @@ cleared n l = replicate n 0 ++ drop n l
 -- ---- one small part replaced
 
 abbrev pub with_coordination : Coordination → Held → Held
-with_coordination c s = record { count = s.count; enclaves = s.enclaves; published = s.published; observation = s.observation; acknowledged = s.acknowledged; completion_observed = s.completion_observed; seconds = s.seconds; nanoseconds = s.nanoseconds; microsteps = s.microsteps; coordination = c; completion = s.completion; gate = s.gate; grant_horizon = s.grant_horizon; failed = s.failed; first_failure = s.first_failure; lifecycle = s.lifecycle }
+with_coordination c s = record s { coordination = c }
 
 abbrev pub with_completion : Completion → Held → Held
-with_completion c s = record { count = s.count; enclaves = s.enclaves; published = s.published; observation = s.observation; acknowledged = s.acknowledged; completion_observed = s.completion_observed; seconds = s.seconds; nanoseconds = s.nanoseconds; microsteps = s.microsteps; coordination = s.coordination; completion = c; gate = s.gate; grant_horizon = s.grant_horizon; failed = s.failed; first_failure = s.first_failure; lifecycle = s.lifecycle }
+with_completion c s = record s { completion = c }
 
 abbrev pub with_gate : Gate → Held → Held
-with_gate g s = record { count = s.count; enclaves = s.enclaves; published = s.published; observation = s.observation; acknowledged = s.acknowledged; completion_observed = s.completion_observed; seconds = s.seconds; nanoseconds = s.nanoseconds; microsteps = s.microsteps; coordination = s.coordination; completion = s.completion; gate = g; grant_horizon = s.grant_horizon; failed = s.failed; first_failure = s.first_failure; lifecycle = s.lifecycle }
+with_gate g s = record s { gate = g }
