@@ -98,13 +98,13 @@ above ScriptTooLong = omega arith
 above UnsoundState = omega arith
 above NoActionRecord = omega arith
 
-pub refuses : (n : Option Refusal) → is_some n ≡ true → refusal_number n ≡ 0 → ⊥
-refuses None h e = let z : ◌≡◌ {A = ℕ} 0 1 = cc in omega arith
-refuses (Some r) h e = let l = above r in omega arith
+pub refuses : (n : Option Refusal) → is_some n ≡ true → 0 < refusal_number n
+refuses None h = cc
+refuses (Some r) h = above r
 
 pub refuses-none : (n : Option Refusal) → is_some n ≡ false → n ≡ None
 refuses-none None h = refl
-refuses-none (Some r) h = absurd (let z : ◌≡◌ {A = ℕ} 0 1 = cc in omega arith)
+refuses-none (Some r) h = cc
 
 -- ---- what is promised
 

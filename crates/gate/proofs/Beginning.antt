@@ -8,7 +8,7 @@ use Prim.Native.Nat.{ℕ, ◌+◌, ◌≤◌, ◌<◌}
 use native.Mathlib.Omega.{arith}
 use lib.Dec.{T}
 use lib.IntN.{pos}
-use lib.ListN.{get_or, set}
+use lib.ListN.{get_or}
 use Rattle.tags.specs.Tags.{◌≤ₜ◌, within, is_proper}
 use Rattle.rules.specs.Model.{Tag, begin}
 use Rattle.rules.specs.Set.{with_started}
@@ -25,7 +25,7 @@ use Rattle.state.proofs.Neat.{neat-parts, represents-of, place-parts, place-whol
 use Rattle.state.proofs.Columns.{OfStarted}
 use Rattle.state.proofs.Put.{Beyond, plain, past_same, past-set-tag}
 use Rattle.state.proofs.Halves.{stopped-is}
-use Rattle.gate.specs.Parts.{permits}
+use Rattle.gate.specs.Parts.{permits, started_at}
 use Rattle.state.proofs.Seats.{any-seated, any-unknown}
 
 -- ---- the rule's tests
@@ -60,7 +60,7 @@ module _ (s : Held) (e : ℕ) (t : Tag) where
         never true = refl
         never false = refl
 
-    pub may-known : (i : ℕ) → Good s → Seated s e i → may_begin (view s).input_horizon e t (view s) ≡ permits s.coordination.phase s.gate t
+    pub may-known : (i : ℕ) → Good s → Seated s e i → may_begin (view s).input_horizon e t (view s) ≡ permits s t
     may-known i g d =
         ap (λ m. may_begin m e t (view s)) a-horizon ∙
         ap₂ (λ a b. not a && t ≤ₜ s.gate.input_horizon && b) (stopped-is s g.neat) (any-seated s e i d (λ p. within t p.granted))
@@ -76,26 +76,6 @@ module _ (s : Held) (e : ℕ) (t : Tag) where
   step-denied y = ap (λ (b : Bool). cond b (quiet (begun (view s).input_horizon e t (view s))) (quiet (view s))) y
 
 -- ---- the started tag stored
-
-abbrev pub started_at : Held → ℕ → Tag → Held
-started_at s i t = record {
-  count = s.count;
-  enclaves = s.enclaves;
-  published = s.published;
-  observation = s.observation;
-  acknowledged = s.acknowledged;
-  completion_observed = s.completion_observed;
-  seconds = set s.seconds (64 + i) t.seconds;
-  nanoseconds = set s.nanoseconds (64 + i) t.nanoseconds;
-  microsteps = set s.microsteps (64 + i) t.microstep;
-  coordination = s.coordination;
-  completion = s.completion;
-  gate = s.gate;
-  grant_horizon = s.grant_horizon;
-  failed = s.failed;
-  first_failure = s.first_failure;
-  lifecycle = s.lifecycle;
-}
 
 module _ (s : Held) (e i : ℕ) (t : Tag) (g : Good s) (few : s.count ≤ 32) (d : Seated s e i) (proper : is_proper t ≡ true) where
   abbrev then : Held

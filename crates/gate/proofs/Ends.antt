@@ -1,35 +1,37 @@
 -- What a call of this crate promises at each of its returns, on plain values: the refusal by the tests made so far, the answer by the rule's test, and
 -- the state stored. One law for the four calls that give one tag and name no enclave. Assumes nothing.
 use Rattle.std.specs.Prelude.{Option, Some, None}
+use Rattle.std.specs.Option.{is_some}
 use mathlib.Core.Path.{◌≡◌, refl, sym, ap, ap₂, ◌∙◌, subst}
 use mathlib.Core.Bool.{Bool, true, false, not, cond, ◌&&◌, ◌||◌}
 use mathlib.Core.List.{List, [], ◌∷◌}
-use Prim.Native.Nat.{ℕ, ◌<◌, ◌≤◌}
-use native.Mathlib.Omega.{arith}
+use Prim.Native.Nat.{ℕ, ◌+◌, ◌≤◌}
 use lib.Dec.{T, ltb}
 use lib.ListN.{length}
 use Rattle.tags.specs.Tags.{within, is_proper, proper_if_present}
 use Rattle.records.specs.Numbers.{refusal_number}
 use Rattle.records.specs.declared.Refusal.{Refusal}
 use Rattle.records.specs.declared.Refusal.TheVariants.{UnsoundState, ImproperTag}
-use Rattle.rules.specs.Model.{Tag, State, Call, Given, horizon, begin, late, done, input}
+use Rattle.rules.specs.Model.{Tag, State, Step, Call, horizon, begin, late, done, input}
 use Rattle.rules.specs.Walk.{knows, quiet}
 use Rattle.rules.specs.Gate.{is_late, is_completed}
-use Rattle.rules.specs.Calls.{facts, says, own_step, take_step, is_sound, room_for, all_proper, knows_all, is_spent, refused_answer}
+use Rattle.rules.specs.Calls.{facts, says, own_step, take_step, is_sound, room_for, all_proper, knows_all, is_spent, ascending, refused_answer}
+use Rattle.rules.proofs.Sound.{sound-ascending}
 use Rattle.state.specs.declared.FederateCoordinationState.{FederateCoordinationState as Held}
 use Rattle.state.specs.declared.Gate.{Gate}
 use Rattle.state.specs.Cells.{optional_of, cell_of}
-use Rattle.state.specs.View.{rows_of, view, put, represents}
-use Rattle.state.specs.Parts.{with_gate}
+use Rattle.state.specs.View.{tag_at, rows_of, view, put, represents}
+use Rattle.state.specs.Parts.{Seated, with_gate}
 use Rattle.state.proofs.Rows.{known, neat-cell, optional-cell, rows-gate}
 use Rattle.state.proofs.Neat.{count-bounds, gate-parts, gate-whole, neat-gate, neat-with-gate}
 use Rattle.state.proofs.Put.{beyond-columns}
 use Rattle.calls.specs.declared.Called.{Called}
 use Rattle.calls.specs.declared.Reply.{Reply}
 use Rattle.calls.specs.Called.{refusal_of, Promised, lent, replied}
-use Rattle.calls.proofs.Refusals.{Passes, passes, refusal-27, refusal-7, refusal-3, refusal-0, refused, taken}
-use Rattle.calls.proofs.Standing.{Standing, is-so, promised-taken}
-use Rattle.gate.specs.Replies.{Replies, Admits, Finds}
+use Rattle.calls.proofs.Refusals.{refuses, refuses-none, Passes, passes, refusal-27, refusal-7, refusal-3, refusal-0, refused, taken}
+use Rattle.calls.proofs.Standing.{Standing, is-so, promised-refused, promised-taken}
+use Rattle.gate.specs.Replies.{Replies, answering}
+use Rattle.gate.specs.Parts.{sound_then_proper}
 use Rattle.state.proofs.Seats.{any-seated, any-unknown}
 
 -- ---- the refusals
@@ -48,20 +50,40 @@ asks-horizon h = record { roomless = refl; tags = refl; nameless = refl; right =
 pub asks-begin : (e : ℕ) (t : Tag) → Asks (begin e t) (Some t)
 asks-begin e t = record { roomless = refl; tags = refl; nameless = refl; right = λ m. refl; unspent = refl }
 
-module _ (c : Call) (t : Option Tag) (k : Asks c t) (s : Held) (p : Passes s) where
+module _ (c : Call) (t : Option Tag) (k : Asks c t) (s : Held) where
   roomy : ((facts c).takes_room && ltb 0 (room_for (view s))) ≡ false
   roomy = ap (λ b. b && ltb 0 (room_for (view s))) k.roomless
 
   tag_is : (b : Bool) → proper_if_present t ≡ b → all_proper (facts c).tags ≡ (b && true)
   tag_is b e = ap all_proper k.tags ∙ ap (λ x. x && true) e
 
-  pub asks-7 : proper_if_present t ≡ false → 7 ≡ refusal_of (lent 0 c) s
-  asks-7 e = refusal-7 (lent 0 c) s p roomy (tag_is false e)
+  asks-7 : Passes s → proper_if_present t ≡ false → 7 ≡ refusal_of (lent 0 c) s
+  asks-7 p e = refusal-7 (lent 0 c) s p roomy (tag_is false e)
 
-  pub asks-0 : proper_if_present t ≡ true → 0 ≡ refusal_of (lent 0 c) s
-  asks-0 e =
+  pub asks-0 : Passes s → proper_if_present t ≡ true → 0 ≡ refusal_of (lent 0 c) s
+  asks-0 p e =
       refusal-0 (lent 0 c) s p roomy (tag_is true e) (ap (λ l. knows_all l (rows_of s)) k.nameless) (k.right (view s))
       (ap (λ b. b && is_spent (own_step c (view s)).state) k.unspent)
+
+  -- by the test that the code makes of both
+  module _ {b : Bool} (q : b ≡ proper_if_present t) (n : Option Refusal) (is : n ≡ sound_then_proper s b) where
+    pub asks-number : refusal_number n ≡ refusal_of (lent 0 c) s
+    asks-number = subst (λ (x : Option Refusal). refusal_number x ≡ refusal_of (lent 0 c) s) (sym is) (go (represents s && is_sound (view s)) b refl (sym q))
+      where
+        go : (x y : Bool) → (represents s && is_sound (view s)) ≡ x → proper_if_present t ≡ y
+            → refusal_number (cond x (cond y None (Some ImproperTag)) (Some UnsoundState)) ≡ refusal_of (lent 0 c) s
+        go true true p e = asks-0 (passes s p) e
+        go true false p e = asks-7 (passes s p) e
+        go false y p e = refusal-27 (lent 0 c) s p
+
+    pub asks-passed : is_some n ≡ false → Passes s × (proper_if_present t ≡ true)
+    asks-passed h = go (represents s && is_sound (view s)) b refl (sym q) (ap is_some (sym is) ∙ h)
+      where
+        go : (x y : Bool) → (represents s && is_sound (view s)) ≡ x → proper_if_present t ≡ y
+            → is_some (cond x (cond y None (Some ImproperTag)) (Some UnsoundState)) ≡ false → Passes s × (proper_if_present t ≡ true)
+        go true true p e l = (passes s p, e)
+        go true false p e l = cc
+        go false y p e l = cc
 
 module _ (es : List ℕ) (s : Held) (p : Passes s) where
   pub input-3 : knows_all es (rows_of s) ≡ false → 3 ≡ refusal_of (lent 0 (input es)) s
@@ -76,6 +98,11 @@ module _ (es : List ℕ) (s : Held) (p : Passes s) where
 pub refused-no : (b : Bool) → (Some false) ≡ refused_answer (says b)
 refused-no true = refl
 refused-no false = refl
+
+-- refused by 27 or 7
+pub ends-asked : (c : Call) (t : Option Tag) → Asks c t → (s : Held) {b : Bool} → b ≡ proper_if_present t → (n : Option Refusal) → n ≡ sound_then_proper s b → is_some n ≡ true
+    → (x : Option Bool) → x ≡ refused_answer ((facts c).answer (view s)) → {r : Called} → r ≡ replied s n x 0 → Promised (lent 0 c) s r
+ends-asked c t k s q n is h x y e = promised-refused (lent 0 c) s n x (asks-number c t k s q n is) (refuses n h) y e
 
 -- ---- set_input_horizon
 
@@ -120,18 +147,9 @@ module _ (s : Held) (h : Option Tag) (st : Standing s) (proper : proper_if_prese
 
 -- ---- what is promised of a question that hands no state back
 
-abbrev pub answering : Option Refusal → Bool → Reply
-answering n b = record { refusal = n; answer = says b; actions = 0 }
-
-module _ (g : Given) (s : Held) where
-  shown : (t : Held) (n : Option Refusal) (b : Bool) → Promised g s (replied t n (says b) 0) → Replies g s (answering n b)
-  shown t n b p = record { refusal = p.refusal; answer = p.answer; actions = p.actions }
-
-  replies-refused : (q : State → Bool) (n : Option Refusal) → (facts g.what).answer (view s) ≡ says (q (view s)) → refusal_number n ≡ refusal_of g s → 0 < refusal_number n → Replies g s (answering n false)
-  replies-refused q n a h l = shown s n false (refused g s n (Some false) h l (refused-no (q (view s)) ∙ ap refused_answer (sym a)))
-
-  replies-taken : (b : Bool) → 0 ≡ refusal_of g s → says b ≡ (facts g.what).answer (view s) → take_step g.what (view s) ≡ quiet (view s) → Replies g s (answering None b)
-  replies-taken b z a q = shown (put s (take_step g.what (view s)).state) None b (taken g s (put s (take_step g.what (view s)).state) (says b) 0 z a (ap (λ o. length o.actions) (sym q)) refl)
+some-says : (b : Bool) → Some b ≡ says b
+some-says true = refl
+some-says false = refl
 
 -- c asks q about the tag t, and changes nothing
 pub record Question (c : Call) (t : Tag) (q : State → Bool) : Type 0 where
@@ -139,67 +157,68 @@ pub record Question (c : Call) (t : Tag) (q : State → Bool) : Type 0 where
   pub answers : (m : State) → (facts c).answer m ≡ says (q m)
   pub still : (m : State) → take_step c m ≡ quiet m
 
-module _ {c : Call} {t : Tag} {q : State → Bool} (k : Question c t q) (s : Held) (r : Reply) where
-  pub asked-27 : r ≡ answering (Some UnsoundState) false → (represents s && is_sound (view s)) ≡ false → Replies (lent 0 c) s r
-  asked-27 e h =
-      subst (Replies (lent 0 c) s) (sym e)
-      (replies-refused (lent 0 c) s q (Some UnsoundState) (k.answers (view s)) (refusal-27 (lent 0 c) s h) (omega arith))
+module _ {c : Call} {t : Tag} {q : State → Bool} (k : Question c t q) (s : Held) {b : Bool} (p : b ≡ is_proper t) (n : Option Refusal) (is : n ≡ sound_then_proper s b) where
+  shown : (v : Held) (m : Option Refusal) (y : Bool) → Promised (lent 0 c) s (replied v m (Some y) 0) → Replies (lent 0 c) s (answering m y)
+  shown v m y w = record { refusal = w.refusal; answer = w.answer; actions = w.actions }
 
-  pub asked-7 : r ≡ answering (Some ImproperTag) false → ((represents s && is_sound (view s)) ≡ true) × (is_proper t ≡ false) → Replies (lent 0 c) s r
-  asked-7 e h =
-      subst (Replies (lent 0 c) s) (sym e)
-      (replies-refused (lent 0 c) s q (Some ImproperTag) (k.answers (view s)) (asks-7 c (Some t) k.asks s (passes s h.0) h.1) (omega arith))
+  pub asked-passed : is_some n ≡ false → Passes s
+  asked-passed h = (asks-passed c (Some t) k.asks s p n is h).0
 
-  pub asked-0 : (b : Bool) → r ≡ answering None b → Admits s t → b ≡ q (view s) → Replies (lent 0 c) s r
-  asked-0 b e h y =
+  pub asked-refused : {r : Reply} → is_some n ≡ true → r ≡ answering n false → Replies (lent 0 c) s r
+  asked-refused h e =
       subst (Replies (lent 0 c) s) (sym e)
-      (replies-taken (lent 0 c) s b (asks-0 c (Some t) k.asks s (passes s h.passes) h.proper) (ap says y ∙ sym (k.answers (view s))) (k.still (view s)))
+      (shown s n false (refused (lent 0 c) s n (Some false) (asks-number c (Some t) k.asks s p n is) (refuses n h)
+      (refused-no (q (view s)) ∙ ap refused_answer (sym (k.answers (view s))))))
+
+  -- neither 27 nor 7
+  pub asked-taken : {r : Reply} (y : Bool) → is_some n ≡ false → (Passes s → y ≡ q (view s)) → r ≡ answering n y → Replies (lent 0 c) s r
+  asked-taken y h says_so e =
+      let w = asks-passed c (Some t) k.asks s p n is h in
+      let still = k.still (view s) in
+      let v = put s (take_step c (view s)).state in
+      subst (Replies (lent 0 c) s) (sym (e ∙ ap (λ (m : Option Refusal). answering m y) (refuses-none n h)))
+      (shown v None y (taken (lent 0 c) s v (Some y) 0 (asks-0 c (Some t) k.asks s w.0 w.1)
+      (some-says y ∙ ap says (says_so w.0) ∙ sym (k.answers (view s))) (ap (λ (o : Step). length o.actions) (sym still)) refl))
 
 -- ---- input_is_late, input_completed
 
 module _ (s : Held) (e : ℕ) (t : Tag) where
-  late-unknown : knows e (rows_of s) ≡ false → true ≡ is_late e t (view s)
+  pub late-unknown : knows e (rows_of s) ≡ false → true ≡ is_late e t (view s)
   late-unknown h = sym (ap₂ (λ a b. not a || b) h (any-unknown e (λ p. within t p.started || within t p.completed) (rows_of s) h))
 
-  done-unknown : knows e (rows_of s) ≡ false → false ≡ is_completed e t (view s)
+  pub done-unknown : knows e (rows_of s) ≡ false → false ≡ is_completed e t (view s)
   done-unknown h = sym (any-unknown e (λ p. within t p.completed) (rows_of s) h)
 
-  module _ (x y : Tag) (f : Finds s e x y) where
-    late-found : (within t (optional_of x) || within t (optional_of y)) ≡ is_late e t (view s)
-    late-found =
-        ap₂ (λ a b. within t (optional_of a) || within t (optional_of b)) f.started-is f.completed-is ∙
-        sym (ap₂ (λ a b. not a || b) (known s e f.place f.seat) (any-seated s e f.place f.seat (λ p. within t p.started || within t p.completed)))
+  -- by what stands at its place
+  module _ (i : ℕ) (d : Seated s e i) where
+    late-known : {a b : Bool} → a ≡ within t (optional_of (tag_at s (64 + i))) → b ≡ within t (optional_of (tag_at s (32 + i))) → (a || b) ≡ is_late e t (view s)
+    late-known p q = (λ k. p k || q k) ∙ sym (ap₂ (λ a b. not a || b) (known s e i d) (any-seated s e i d (λ p. within t p.started || within t p.completed)))
 
-    done-found : within t (optional_of y) ≡ is_completed e t (view s)
-    done-found = ap (λ b. within t (optional_of b)) f.completed-is ∙ sym (any-seated s e f.place f.seat (λ p. within t p.completed))
+    pub late-started : {a : Bool} → a ≡ within t (optional_of (tag_at s (64 + i))) → a ≡ true → true ≡ is_late e t (view s)
+    late-started p h = late-known (sym h ∙ p) refl
 
-late-question : (e : ℕ) (t : Tag) → Question (late e t) t (is_late e t)
+    pub late-completed : {a b : Bool} → a ≡ within t (optional_of (tag_at s (64 + i))) → b ≡ within t (optional_of (tag_at s (32 + i))) → a ≡ false → b ≡ is_late e t (view s)
+    late-completed p q h = late-known (sym h ∙ p) q
+
+    pub done-known : {b : Bool} → b ≡ within t (optional_of (tag_at s (32 + i))) → b ≡ is_completed e t (view s)
+    done-known q = q ∙ sym (any-seated s e i d (λ p. within t p.completed))
+
+pub late-question : (e : ℕ) (t : Tag) → Question (late e t) t (is_late e t)
 unfolding take_step own_step
 late-question e t = record { asks = record { roomless = refl; tags = refl; nameless = refl; right = λ m. refl; unspent = refl }; answers = λ m. refl; still = λ m. refl }
 
-done-question : (e : ℕ) (t : Tag) → Question (done e t) t (is_completed e t)
+pub done-question : (e : ℕ) (t : Tag) → Question (done e t) t (is_completed e t)
 unfolding take_step own_step
 done-question e t = record { asks = record { roomless = refl; tags = refl; nameless = refl; right = λ m. refl; unspent = refl }; answers = λ m. refl; still = λ m. refl }
 
--- ---- both, by whether it is asked for `late`
+-- ---- of a state that passes 27
 
-abbrev pub yes_to : Bool → ℕ → Tag → State → Bool
-yes_to b e t m = cond b (is_late e t m) (is_completed e t m)
+pub few-in : (s : Held) → Passes s → s.count ≤ 32
+few-in s p = (count-bounds s (is-so p.sound)).1
 
-pub asked-question : (b : Bool) (e : ℕ) (t : Tag) → Question (cond b (late e t) (done e t)) t (yes_to b e t)
-asked-question true = late-question
-asked-question false = done-question
+pub ascends-in : (s : Held) → Passes s → T (ascending (rows_of s))
+ascends-in s p = sound-ascending (view s) (is-so p.sound)
 
-pub asked-unknown : (b : Bool) (s : Held) (e : ℕ) (t : Tag) → knows e (rows_of s) ≡ false → b ≡ yes_to b e t (view s)
-asked-unknown true = late-unknown
-asked-unknown false = done-unknown
-
-pub asked-found : (b : Bool) (s : Held) (e : ℕ) (t x y : Tag) → Finds s e x y → ((b && within t (optional_of x)) || within t (optional_of y)) ≡ yes_to b e t (view s)
-asked-found true = late-found
-asked-found false = done-found
-
--- ---- the number of participants
-
--- of a state that passes 27
+-- by the test of 27
 pub few-of : (s : Held) {b : Bool} → b ≡ (represents s && is_sound (view s)) → b ≡ true → s.count ≤ 32
-few-of s e h = (count-bounds s (is-so (passes s (sym e ∙ h)).sound)).1
+few-of s e h = few-in s (passes s (sym e ∙ h))

@@ -31,6 +31,7 @@ use Rattle.state.proofs.Put.{Beyond, Past, plain, past_same, past-cleared}
 use Rattle.state.proofs.Columns.{place}
 use Rattle.calls.specs.declared.Called.{Called}
 use Rattle.calls.specs.Called.{Promised, lent, replied}
+use Rattle.publication.specs.Announce.{dropped_of}
 use Rattle.publication.specs.Revise.{revised_of, unprobed_of}
 use Rattle.publication.proofs.Neat.{neat-revised, neat-unprobed}
 use Rattle.gate.specs.Parts.{all_found, stays_at, unlisted}
@@ -59,36 +60,39 @@ storing s published observation coordination completion gate = record {
   lifecycle = s.lifecycle;
 }
 
+-- "drops .. all granted tags"
+abbrev pub opened : Gate → Gate
+opened g = record { input_horizon = g.input_horizon; stored_revision = g.stored_revision; stored_granted = g.stored_granted; granted = absent }
+
 -- "drops the stored acquisition and all granted tags"
 abbrev dropped : Gate → Gate
-dropped g = record { input_horizon = g.input_horizon; stored_revision = 0; stored_granted = absent; granted = absent }
+dropped g = opened (dropped_of g)
 
 abbrev noticed_state : Held → List ℕ → Held
 noticed_state s es =
-    storing s (unlisted s.enclaves es s.published s.count) (cleared s.count s.observation) (revised_of s.coordination) (unprobed_of s.completion) (dropped s.gate)
+    storing s (unlisted s es s.count) (cleared s.count s.observation) (revised_of s.coordination) (unprobed_of s.completion) (dropped s.gate)
 
 -- ---- the flags that stay
 
-module _ (indices es : List ℕ) (flags : List Bool) (n : ℕ) where
-  stays_within : (j : ℕ) → j < n → get_or (unlisted indices es flags n) j false ≡ stays_at indices es flags j
-  stays_within j h =
-      get_or-append (tab (stays_at indices es flags) 0 n) (drop n flags) false j (let l = length-tab (stays_at indices es flags) 0 n in omega arith) ∙
-      get_or-tab (stays_at indices es flags) false n j h
+module _ (s : Held) (es : List ℕ) (n : ℕ) where
+  abbrev f : ℕ → Bool
+  f = stays_at s es
 
-  stays-past : n ≤ length flags → Past plain false n flags (unlisted indices es flags n)
+  stays_within : (j : ℕ) → j < n → get_or (unlisted s es n) j false ≡ stays_at s es j
+  stays_within j h =
+      get_or-append (tab f 0 n) (drop n s.published) false j (let l = length-tab f 0 n in omega arith) ∙ get_or-tab f false n j h
+
+  stays-past : n ≤ length s.published → Past plain false n s.published (unlisted s es n)
   stays-past h = record {
-    long = length-append (tab f 0 n) (drop n flags) ∙ (let a = length-tab f 0 n in let b = length-drop n flags in omega arith);
-    cells = λ u j p q. subst (λ k. get_or (unlisted indices es flags n) k false ≡ get_or flags k false) (let w : n + (j - n) ≡ j = omega arith in w) (tail (j - n));
+    long = length-append (tab f 0 n) (drop n s.published) ∙ (let a = length-tab f 0 n in let b = length-drop n s.published in omega arith);
+    cells = λ u j p q. subst (λ k. get_or (unlisted s es n) k false ≡ get_or s.published k false) (let w : n + (j - n) ≡ j = omega arith in w) (tail (j - n));
   }
     where
-      f : ℕ → Bool
-      f = stays_at indices es flags
-
-      tail : (k : ℕ) → get_or (unlisted indices es flags n) (n + k) false ≡ get_or flags (n + k) false
+      tail : (k : ℕ) → get_or (unlisted s es n) (n + k) false ≡ get_or s.published (n + k) false
       tail k =
-          subst (λ m. get_or (unlisted indices es flags n) (m + k) false ≡ get_or (drop n flags) k false) (length-tab (stays_at indices es flags) 0 n)
-          (get_or-append-add (tab (stays_at indices es flags) 0 n) (drop n flags) k false) ∙
-          get_or-drop n flags k false
+          subst (λ m. get_or (unlisted s es n) (m + k) false ≡ get_or (drop n s.published) k false) (length-tab f 0 n)
+          (get_or-append-add (tab f 0 n) (drop n s.published) k false) ∙
+          get_or-drop n s.published k false
 
 module _ (s : Held) (es : List ℕ) (g : Good s) (few : s.count ≤ 32) where
   abbrev then : Held
@@ -102,7 +106,7 @@ module _ (s : Held) (es : List ℕ) (g : Good s) (few : s.count ≤ 32) where
         index = get_or s.enclaves j 0;
         candidate = optional_of (tag_at s j);
         completed = optional_of (tag_at s (32 + j));
-        published = stays_within s.enclaves es s.published s.count j h k;
+        published = stays_within s es s.count j h k;
         completion_observed = number_if (get_or s.acknowledged j false) (get_or s.completion_observed j 0);
         observation = observation_of (cleared-within s.count s.observation j h k);
         granted = None;
@@ -152,7 +156,7 @@ module _ (s : Held) (es : List ℕ) (g : Good s) (few : s.count ≤ 32) where
   noticed-beyond = let n = s.count in let z = g.sized in record {
     count = refl;
     enclaves = past_same plain 0 n s.enclaves s.enclaves refl;
-    published = stays-past s.enclaves es s.published n (let l = z.published in omega arith);
+    published = stays-past s es n (let l = z.published in omega arith);
     observation = past-cleared n s.observation (let l = z.observation in omega arith);
     acknowledged = past_same plain false n s.acknowledged s.acknowledged refl;
     observed = past_same plain 0 n s.completion_observed s.completion_observed refl;
@@ -163,7 +167,7 @@ module _ (s : Held) (es : List ℕ) (g : Good s) (few : s.count ≤ 32) where
 
 -- ---- the two answers
 
-module _ (s : Held) (es : List ℕ) (st : Standing s) {known : Bool} (q : known ≡ all_found s.enclaves s.count es) where
+module _ (s : Held) (es : List ℕ) (st : Standing s) {known : Bool} (q : known ≡ all_found s es) where
   knowing : knows_all es (rows_of s) ≡ known
   knowing = knows-found s st.ascends es ∙ sym q
 
@@ -171,7 +175,7 @@ module _ (s : Held) (es : List ℕ) (st : Standing s) {known : Bool} (q : known 
   ends-unknown r h e = promised-refused (lent 0 (input es)) s (Some UnknownEnclave) None (input-3 es s st.passing (knowing ∙ h)) (omega arith) refl e
 
   pub ends-noticed : (published : List Bool) (observation : List ℕ) (c : Coordination) (k : Completion) (g : Gate) (r : Called) → known ≡ true
-      → published ≡ unlisted s.enclaves es s.published s.count → observation ≡ cleared s.count s.observation → c ≡ revised_of s.coordination
+      → published ≡ unlisted s es s.count → observation ≡ cleared s.count s.observation → c ≡ revised_of s.coordination
       → k ≡ unprobed_of s.completion → g ≡ dropped s.gate → r ≡ replied (storing s published observation c k g) None None 0 → Promised (lent 0 (input es)) s r
   ends-noticed published observation c k g r h p o x y z e =
       let few = st.few in

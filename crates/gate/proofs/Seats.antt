@@ -15,7 +15,7 @@ use Rattle.state.proofs.Rows.{seated, known, unknown-knows}
 use Rattle.gate.specs.Parts.{all_found}
 
 -- every enclave of a list is known where each has a place
-pub knows-found : (s : Held) → T (ascending (rows_of s)) → (es : List ℕ) → knows_all es (rows_of s) ≡ all_found s.enclaves s.count es
+pub knows-found : (s : Held) → T (ascending (rows_of s)) → (es : List ℕ) → knows_all es (rows_of s) ≡ all_found s es
 knows-found s a [] = refl
 knows-found s a (e ∷ es) = ap₂ ◌&&◌ (go (ltb i s.count) refl) (knows-found s a es)
   where

@@ -1,26 +1,55 @@
--- Document 01, "Gate", on the small parts and on columns: the indices that are participants, the participants that stay published, and the
--- tests of `begin_tag`. Assumes nothing.
-use Rattle.std.specs.Prelude.{Bool, true, false, not, ◌&&◌, List, [], ◌∷◌, ◌++◌, ℕ, eqb, ltb, get_or, drop}
+-- Document 01, "Gate", on the state held: the refusals of the calls that give one tag, the indices that are participants, the participants that stay
+-- published, and the tests of `begin_tag`. Assumes nothing.
+use Rattle.std.specs.Prelude.{Bool, false, not, cond, ◌&&◌, List, ◌++◌, ℕ, ◌+◌, eqb, ltb, get_or, set, drop, None, Option, Some}
+use Rattle.std.specs.List.{list_all}
 use Rattle.tags.specs.Tags.{◌≤ₜ◌, within}
+use Rattle.records.specs.declared.Refusal.{Refusal}
+use Rattle.records.specs.declared.Refusal.TheVariants.{UnsoundState, ImproperTag}
 use Rattle.rules.specs.Model.{Tag}
 use Rattle.rules.specs.Walk.{among}
-use Rattle.state.specs.declared.Gate.{Gate}
+use Rattle.rules.specs.Calls.{is_sound}
+use Rattle.state.specs.declared.FederateCoordinationState.{FederateCoordinationState as Held}
 use Rattle.state.specs.Walk.{tab, place_from}
 use Rattle.state.specs.Cells.{optional_of}
+use Rattle.state.specs.View.{view, represents}
 
--- each of these indices stands among the first n
-abbrev pub all_found : List ℕ → ℕ → List ℕ → Bool
-all_found indices n [] = true
-all_found indices n (e ∷ es) = ltb (place_from (λ j. eqb (get_or indices j 0) e) 0 n) n && all_found indices n es
+-- "Calls: 27, .. 7, ..", by whether the tag is proper
+abbrev pub sound_then_proper : Held → Bool → Option Refusal
+sound_then_proper s proper = cond (represents s && is_sound (view s)) (cond proper None (Some ImproperTag)) (Some UnsoundState)
+
+-- each of these indices is a participant's
+abbrev pub all_found : Held → List ℕ → Bool
+all_found s es = list_all (λ e. ltb (place_from (λ j. eqb (get_or s.enclaves j 0) e) 0 s.count) s.count) es
 
 -- "unpublishes the named": whether the participant at place j stays published
-abbrev pub stays_at : List ℕ → List ℕ → List Bool → ℕ → Bool
-stays_at indices es published j = get_or published j false && not (among (get_or indices j 0) es)
+abbrev pub stays_at : Held → List ℕ → ℕ → Bool
+stays_at s es j = get_or s.published j false && not (among (get_or s.enclaves j 0) es)
 
 -- of the first n
-abbrev pub unlisted : List ℕ → List ℕ → List Bool → ℕ → List Bool
-unlisted indices es published n = tab (stays_at indices es published) 0 n ++ drop n published
+abbrev pub unlisted : Held → List ℕ → ℕ → List Bool
+unlisted s es n = tab (stays_at s es) 0 n ++ drop n s.published
 
 -- "running, tag at or below that horizon, .. and at or below its granted tag"
-abbrev pub permits : ℕ → Gate → Tag → Bool
-permits phase g t = not (eqb phase 6) && t ≤ₜ g.input_horizon && within t (optional_of g.granted)
+abbrev pub permits : Held → Tag → Bool
+permits s t = not (eqb s.coordination.phase 6) && t ≤ₜ s.gate.input_horizon && within t (optional_of s.gate.granted)
+
+-- "and then started is this tag": the state with it at place i
+abbrev pub started_at : Held → ℕ → Tag → Held
+started_at s i t = record {
+  count = s.count;
+  enclaves = s.enclaves;
+  published = s.published;
+  observation = s.observation;
+  acknowledged = s.acknowledged;
+  completion_observed = s.completion_observed;
+  seconds = set s.seconds (64 + i) t.seconds;
+  nanoseconds = set s.nanoseconds (64 + i) t.nanoseconds;
+  microsteps = set s.microsteps (64 + i) t.microstep;
+  coordination = s.coordination;
+  completion = s.completion;
+  gate = s.gate;
+  grant_horizon = s.grant_horizon;
+  failed = s.failed;
+  first_failure = s.first_failure;
+  lifecycle = s.lifecycle;
+}

@@ -3,119 +3,112 @@
 // before anything changes. The other calls never give 3.
 #![tactic(auto)]
 
-ghost use Rattle.std.specs.Prelude.{◌≡◌, cond, ◌≤◌};
+ghost use Rattle.std.specs.Prelude.{◌≡◌, ◌≤◌, ◌<◌, T};
 ghost use Rattle.tags.specs.Tags.{within};
 ghost use Rattle.rules.specs.Model.{horizon as capping, begin, late, done, input};
-ghost use Rattle.rules.specs.Walk.{among};
+ghost use Rattle.rules.specs.Gate.{is_late, is_completed};
+ghost use Rattle.rules.specs.Calls.{ascending};
 ghost use Rattle.state.specs.Cells.{optional_of};
+ghost use Rattle.state.specs.View.{rows_of, view};
 ghost use Rattle.calls.specs.Called.{Promised, lent};
-ghost use Rattle.gate.specs.Replies.{Replies};
-ghost use Rattle.gate.specs.Parts.{all_found, unlisted, permits};
+ghost use Rattle.gate.specs.Replies.{Replies, answering};
+ghost use Rattle.gate.specs.Parts.{sound_then_proper, all_found, unlisted, permits, started_at};
 
 use calls::{Called, Reply};
 use records::{EnclaveIndex, Refusal};
 use state::{ABSENT, COMPLETED, FederateCoordinationState, Gate, STARTED};
 use tags::Tag;
 
+// 27 before 7, or neither.
+fn refusal_of(state: &FederateCoordinationState, proper: bool) -> Option<Refusal>
+    ensures { result ≡ sound_then_proper state.now proper }
+{
+    if !soundness::is_sound(state) {
+        Some(Refusal::UnsoundState)
+    } else if !proper {
+        Some(Refusal::ImproperTag)
+    } else {
+        None
+    }
+}
+
 fn is_within_cell(tag: Tag, cell: Tag) -> bool
     ensures { result ≡ within tag (optional_of cell) }
 {
-    let held = state::optional_of(cell);
-    tags::is_within(tag, held)
+    tags::is_within(tag, state::optional_of(cell))
 }
 
 // Stores the input horizon; changes nothing else.
 pub fn set_input_horizon(mut state: FederateCoordinationState, horizon: Option<Tag>) -> Called
     ensures { Promised (lent 0 (capping horizon)) state result }
 {
-    let mut refusal = Some(Refusal::UnsoundState);
-    if soundness::is_sound(&state) {
-        refusal = Some(Refusal::ImproperTag);
-        if tags::proper_if_present(horizon) {
-            let mut gate = state.gate;
-            let cell = state::cell_of(horizon);
-            gate.input_horizon = cell;
-            state.gate = gate;
-            refusal = None;
-        }
+    let refusal = refusal_of(&state, tags::proper_if_present(horizon));
+    if refusal.is_none() {
+        state.gate.input_horizon = state::cell_of(horizon);
     }
     calls::with_reply(state, refusal, None, 0)
 }
 
-fn may_begin(phase: u8, gate: Gate, tag: Tag) -> bool
-    ensures { result ≡ permits phase gate tag }
+fn may_begin(state: &FederateCoordinationState, tag: Tag) -> bool
+    ensures { result ≡ permits state.now tag }
 {
-    let horizon = gate.input_horizon;
-    let granted = gate.granted;
-    (phase != 6) & tags::at_or_below(tag, horizon) & is_within_cell(tag, granted)
+    state.coordination.phase != 6
+        && tags::at_or_below(tag, state.gate.input_horizon)
+        && is_within_cell(tag, state.gate.granted)
+}
+
+fn put_started(state: &mut FederateCoordinationState, place: usize, tag: Tag)
+    requires { place < 32 }
+    ensures { state.new ≡ started_at state.old place tag }
+{
+    state.seconds[STARTED + place] = tag.seconds;
+    state.nanoseconds[STARTED + place] = tag.nanoseconds;
+    state.microsteps[STARTED + place] = tag.microstep;
 }
 
 // Whether the enclave may begin the tag: anyone without input horizon, else by that horizon and the granted tag, and then started is this tag.
 pub fn begin_tag(mut state: FederateCoordinationState, enclave: EnclaveIndex, tag: Tag) -> Called
     ensures { Promised (lent 0 (begin enclave tag)) state result }
 {
-    let count = state.count;
-    let coordination = state.coordination;
-    let gate = state.gate;
-    let horizon = gate.input_horizon;
-    let mut refusal = None;
-    let mut answer = Some(false);
-    if !soundness::is_sound(&state) {
-        refusal = Some(Refusal::UnsoundState);
-    } else if !tags::is_proper(tag) {
-        refusal = Some(Refusal::ImproperTag);
-    } else if state::is_absent(horizon) {
-        answer = Some(true);
-    } else {
-        let place = table::find(&state.enclaves, count, enclave);
-        if place < count && may_begin(coordination.phase, gate, tag) {
-            let seconds = tag.seconds;
-            let nanoseconds = tag.nanoseconds;
-            let microstep = tag.microstep;
-            state.seconds[STARTED + place] = seconds;
-            state.nanoseconds[STARTED + place] = nanoseconds;
-            state.microsteps[STARTED + place] = microstep;
-            answer = Some(true);
-        }
+    let refusal = refusal_of(&state, tags::is_proper(tag));
+    if refusal.is_some() {
+        return calls::with_reply(state, refusal, Some(false), 0);
     }
-    calls::with_reply(state, refusal, answer, 0)
+    if state::is_absent(state.gate.input_horizon) {
+        return calls::with_reply(state, None, Some(true), 0);
+    }
+    let place = table::find(&state, enclave);
+    if state.count <= place || !may_begin(&state, tag) {
+        return calls::with_reply(state, None, Some(false), 0);
+    }
+    put_started(&mut state, place, tag);
+    calls::with_reply(state, None, Some(true), 0)
 }
 
-// Both queries about an enclave are answered here, by value, since they change nothing and hand no state back: whether the enclave has completed the tag or
-// a later one; and where it is asked whether input is `late`, also whether it has started one or is unknown.
-fn asked(state: FederateCoordinationState, enclave: EnclaveIndex, tag: Tag, is_late: bool) -> Reply
-    ensures { Replies (lent 0 (cond is_late (late enclave tag) (done enclave tag))) state result }
+fn is_late(state: &FederateCoordinationState, enclave: EnclaveIndex, tag: Tag) -> bool
+    requires { state.now.count ≤ 32 }
+    ensures { T (ascending (rows_of state.now)) → result ≡ is_late enclave tag (view state.now) }
 {
-    let count = state.count;
-    let mut refusal = None;
-    let mut yes = false;
-    if !soundness::is_sound(&state) {
-        refusal = Some(Refusal::UnsoundState);
-    } else if !tags::is_proper(tag) {
-        refusal = Some(Refusal::ImproperTag);
-    } else {
-        let place = table::find(&state.enclaves, count, enclave);
-        yes = is_late;
-        if place < count {
-            let started = table::tag_at(
-                &state.seconds,
-                &state.nanoseconds,
-                &state.microsteps,
-                STARTED + place,
-            );
-            let completed = table::tag_at(
-                &state.seconds,
-                &state.nanoseconds,
-                &state.microsteps,
-                COMPLETED + place,
-            );
-            yes = (is_late & is_within_cell(tag, started)) | is_within_cell(tag, completed);
-        }
-    }
-    let answer = if yes { Some(true) } else { Some(false) };
+    let place = table::find(state, enclave);
+    state.count <= place
+        || is_within_cell(tag, state.tag_at(STARTED + place))
+        || is_within_cell(tag, state.tag_at(COMPLETED + place))
+}
+
+fn is_completed(state: &FederateCoordinationState, enclave: EnclaveIndex, tag: Tag) -> bool
+    requires { state.now.count ≤ 32 }
+    ensures { T (ascending (rows_of state.now)) → result ≡ is_completed enclave tag (view state.now) }
+{
+    let place = table::find(state, enclave);
+    place < state.count && is_within_cell(tag, state.tag_at(COMPLETED + place))
+}
+
+fn answering(refusal: Option<Refusal>, yes: bool) -> Reply
+    ensures { result ≡ answering refusal yes }
+{
     Reply {
         refusal,
-        answer,
+        answer: Some(yes),
         actions: 0,
     }
 }
@@ -124,61 +117,41 @@ fn asked(state: FederateCoordinationState, enclave: EnclaveIndex, tag: Tag, is_l
 pub fn input_is_late(state: FederateCoordinationState, enclave: EnclaveIndex, tag: Tag) -> Reply
     ensures { Replies (lent 0 (late enclave tag)) state result }
 {
-    asked(state, enclave, tag, true)
+    let refusal = refusal_of(&state, tags::is_proper(tag));
+    answering(refusal, refusal.is_none() && is_late(&state, enclave, tag))
 }
 
 // Whether the enclave is known and has completed the tag or a later one.
 pub fn input_completed(state: FederateCoordinationState, enclave: EnclaveIndex, tag: Tag) -> Reply
     ensures { Replies (lent 0 (done enclave tag)) state result }
 {
-    asked(state, enclave, tag, false)
+    let refusal = refusal_of(&state, tags::is_proper(tag));
+    answering(
+        refusal,
+        refusal.is_none() && is_completed(&state, enclave, tag),
+    )
 }
 
-// Whether each of these enclaves is among the first `count`.
-fn are_known(enclaves: &[u32; 32], count: usize, affected: &[u32]) -> bool
-    requires { count ≤ 32 }
-    ensures { result ≡ all_found enclaves.now count affected.now }
+// Whether each of these enclaves is a participant.
+fn are_known(state: &FederateCoordinationState, affected: &[u32]) -> bool
+    requires { state.now.count ≤ 32 }
+    ensures { result ≡ all_found state.now affected.now }
 {
-    let mut i: usize = 0;
-    while i < affected.len() {
-        if count <= table::find(enclaves, count, affected[i]) {
-            return false;
-        }
-        i += 1;
-    }
-    true
+    affected
+        .iter()
+        .all(|enclave| table::find(state, *enclave) < state.count)
 }
 
-fn is_affected(affected: &[u32], enclave: u32) -> bool
-    ensures { result ≡ among enclave affected.now }
+// Which participants stay published; every other flag is as it was.
+fn still_published(state: &FederateCoordinationState, affected: &[u32]) -> [bool; 32]
+    requires { state.now.count ≤ 32 }
+    ensures { result ≡ unlisted state.now affected.now state.now.count }
 {
-    let mut i: usize = 0;
-    while i < affected.len() {
-        if enclave == affected[i] {
-            return true;
-        }
-        i += 1;
-    }
-    false
-}
-
-// Which of the first `count` stay published; every other flag is as it was.
-fn still_published(
-    published: [bool; 32],
-    enclaves: &[u32; 32],
-    count: usize,
-    affected: &[u32],
-) -> [bool; 32]
-    requires { count ≤ 32 }
-    ensures { result ≡ unlisted enclaves.now affected.now published count }
-{
-    let mut left = published;
-    let mut i: usize = 0;
-    while i < count {
-        if is_affected(affected, enclaves[i]) {
+    let mut left = state.published;
+    for i in 0..state.count {
+        if affected.contains(&state.enclaves[i]) {
             left[i] = false;
         }
-        i += 1;
     }
     left
 }
@@ -187,28 +160,20 @@ fn still_published(
 pub fn input_publishing(mut state: FederateCoordinationState, affected: &[u32]) -> Called
     ensures { Promised (lent 0 (input affected.now)) state result }
 {
-    let count = state.count;
-    let coordination = state.coordination;
-    let completion = state.completion;
-    let mut gate = state.gate;
-    let mut refusal = Some(Refusal::UnsoundState);
-    if soundness::is_sound(&state) {
-        refusal = Some(Refusal::UnknownEnclave);
-        if are_known(&state.enclaves, count, affected) {
-            let published = state.published;
-            let mut observation = state.observation;
-            table::clear(&mut observation, count);
-            state.published = still_published(published, &state.enclaves, count, affected);
-            state.observation = observation;
-            state.coordination = publication::revised(coordination);
-            state.completion = publication::unprobed(completion);
-            let none = ABSENT;
-            gate.stored_revision = 0;
-            gate.stored_granted = none;
-            gate.granted = none;
-            state.gate = gate;
-            refusal = None;
-        }
+    if !soundness::is_sound(&state) {
+        return calls::with_reply(state, Some(Refusal::UnsoundState), None, 0);
     }
-    calls::with_reply(state, refusal, None, 0)
+    if !are_known(&state, affected) {
+        return calls::with_reply(state, Some(Refusal::UnknownEnclave), None, 0);
+    }
+    let count = state.count;
+    table::clear(&mut state.observation, count);
+    state.published = still_published(&state, affected);
+    state.coordination = publication::revised(state.coordination);
+    state.completion = publication::unprobed(state.completion);
+    state.gate = Gate {
+        granted: ABSENT,
+        ..publication::dropped(state.gate)
+    };
+    calls::with_reply(state, None, None, 0)
 }

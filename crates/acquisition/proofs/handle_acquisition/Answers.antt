@@ -72,7 +72,7 @@ returns-then-is_some c =
     let a = c.args in
     let at = goal.at.returns-then-is_some c in
     let o = ends-first (lent (length a.room.now) (acquire a.acquisition.revision a.acquisition.granted)) a.state (first at.After-room_first-refusal) a.room.now refl
-    (stands at.After-is_sound c.if-not-is_sound.false).passing (refuses c.room_first-refusal.result (sym c.is_some.ensures ∙ c.if-is_some.true))
+    (stands at.After-is_sound c.if-not-is_sound.false).passing (λ z. let l = refuses c.room_first-refusal.result (sym c.is_some.ensures ∙ c.if-is_some.true) in omega arith)
     c.with_reply-then-is_some.ensures
     in
     record { promised = o.0; bytes = o.1 }

@@ -1,32 +1,30 @@
 -- `gate::set_input_horizon` keeps the promise of the call `horizon`: it refuses 27, then 7, and else stores. Assumes nothing.
-use Rattle.std.specs.Prelude.{None, Some}
-use mathlib.Core.Path.{◌≡◌, refl, sym, ◌∙◌}
-use mathlib.Core.Bool.{true}
-use native.Mathlib.Omega.{arith}
+use Rattle.std.specs.Prelude.{None}
+use mathlib.Core.Path.{refl, ◌∙◌}
 use borrow.Author.Rules.{rules}
-use Rattle.records.specs.declared.Refusal.TheVariants.{ImproperTag}
 use Rattle.rules.specs.Model.{horizon}
 use Rattle.state.specs.Parts.{Sized}
 use Rattle.calls.specs.Called.{replied}
-use Rattle.calls.proofs.Standing.{Standing, standing, promised-refused, promised-27}
-use Rattle.gate.proofs.Ends.{asks-horizon, asks-7, ends-capped}
+use Rattle.calls.proofs.Refusals.{refuses-none}
+use Rattle.calls.proofs.Standing.{standing_by}
+use Rattle.gate.proofs.Ends.{asks-horizon, asks-passed, ends-asked, ends-capped}
 use Rattle.gate.proofs.set_input_horizon.Goals as goal
-use Rattle.gate.proofs.set_input_horizon.Goals.{then-is_sound+then-proper_if_present, then-is_sound+else-proper_if_present, else-is_sound}
+use Rattle.gate.proofs.set_input_horizon.Goals.{then-is_none, else-is_none}
 
--- by each way to the reply: stored, 7, or 27
+-- stored or refused
 pub returns : goal.returns
 returns c =
     let a = c.args in
     let r = c.with_reply.ensures in
+    let n = c.refusal_of-refusal.result in
+    let proper = c.proper_if_present.ensures in
     let sized : Sized a.state = search rules in
-    let stands : c.is_sound.result ≡ true → Standing a.state = standing a.state sized c.is_sound.ensures in
-    elim c.if-is_sound.branch [
-      | then-is_sound+then-proper_if_present w ↦
-          ends-capped a.state a.horizon (stands w.if-is_sound.true) (sym w.proper_if_present.ensures ∙ w.if-proper_if_present.true) _ _ w.cell_of-cell.ensures
-          (r ∙ (λ i. replied (w.state-is i) (w.refusal-is i) None 0))
-      | then-is_sound+else-proper_if_present w ↦
-          promised-refused _ _ (Some ImproperTag) None
-          (asks-7 (horizon a.horizon) a.horizon (asks-horizon a.horizon) a.state (stands w.if-is_sound.true).passing (sym w.proper_if_present.ensures ∙ w.if-proper_if_present.false))
-          (omega arith) refl (r ∙ (λ i. replied (w.state-is i) (w.refusal-is i) None 0))
-      | else-is_sound w ↦ promised-27 _ _ None c.is_sound.ensures w.if-is_sound.false refl (r ∙ (λ i. replied (w.state-is i) (w.refusal-is i) None 0))
+    elim c.if-is_none.branch [
+      | then-is_none w ↦
+          let p = asks-passed (horizon a.horizon) a.horizon (asks-horizon a.horizon) a.state proper n c.refusal_of-refusal.ensures w.if-is_none.ensures in
+          ends-capped a.state a.horizon (standing_by a.state sized p.0) p.1 _ _ w.cell_of-state.ensures
+          (r ∙ (λ i. replied (w.state-is i) (refuses-none n w.if-is_none.ensures i) None 0))
+      | else-is_none w ↦
+          ends-asked (horizon a.horizon) a.horizon (asks-horizon a.horizon) a.state proper n c.refusal_of-refusal.ensures w.if-is_none.ensures None refl
+          (r ∙ (λ i. replied (w.state-is i) n None 0))
     ]
