@@ -2,7 +2,7 @@
 -- Assumes nothing.
 use Rattle.std.specs.Prelude.{cond, List, ℕ, eqb, None, Option, Some}
 use Rattle.rules.specs.Model.{Probed, HasParked, Rechecked, Call, active, stopped, publish, complete, observed, failed, acquire, sent, observe, idle, stop, progress, horizon, begin, late, done, input}
-use Rattle.state.specs.Cells.{enclave_if}
+use Rattle.state.specs.Cells.{number_if}
 use Rattle.plain.specs.declared.CallNumbers.{CallNumbers}
 use Rattle.plain.specs.Tags.{tag_if}
 
@@ -19,7 +19,7 @@ call_of n es =
     (cond (eqb n.kind 3) (Some (complete n.enclave n.first.tag n.network_input))
     (cond (eqb n.kind 4) (Some (observed n.enclave n.number))
     (cond (eqb n.kind 5) (Some (stopped n.enclave))
-    (cond (eqb n.kind 6) (Some (failed (enclave_if n.named n.enclave)))
+    (cond (eqb n.kind 6) (Some (failed (number_if n.named n.enclave)))
     (cond (eqb n.kind 7) (Some (acquire n.number n.first.tag))
     (cond (eqb n.kind 8) (Some (sent n.number (tag_if n.first) (tag_if n.second)))
     (cond (eqb n.kind 9) (observe_by n.enclave n.number n.observation)

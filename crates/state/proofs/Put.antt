@@ -9,6 +9,7 @@ use lib.Dec.{T}
 use lib.IntN.{pos}
 use lib.ListN.{length, get_or, set, replicate, drop, length-set, length-map, length-append, length-drop, length-replicate}
 use lib.Seq.{get_or-set_other, get_or-append-add, get_or-drop, ext_get_or}
+use Rattle.std.specs.Option.{is_some, unwrap_or}
 use Rattle.tags.specs.Tags.{proper_if_present}
 use Rattle.rules.specs.Model.{Tag, Participant, State}
 use Rattle.rules.specs.Demands.{Each}
@@ -20,12 +21,12 @@ use Rattle.state.specs.declared.Gate.{Gate}
 use Rattle.state.specs.declared.Parts.{Parts}
 use Rattle.state.specs.Walk.{tab}
 use Rattle.state.specs.Cells.{optional_of, cell_of, is_neat, is_zero_unless, number_if, observation_of}
-use Rattle.state.specs.View.{tag_at, row_at, rows_of, view, represents, over, over_tags, granted_of, observation_cell, is_numbered, number_in, put}
+use Rattle.state.specs.View.{tag_at, row_at, rows_of, view, represents, over, over_tags, granted_of, observation_cell, put}
 use Rattle.state.specs.Parts.{Sized, rebuilt, cleared}
 use Rattle.state.proofs.Rows.{tab-same, length-rows, get_or-tab, length-tab, map-tab, cell-optional, optional-cell, neat-cell}
 use Rattle.state.proofs.Neat.{NeatPlace, place-parts, place-whole, neat-place, neat-gate, neat-parts, represents-of, coordination-parts, coordination-whole, completion-parts, completion-whole, gate-parts, gate-whole}
 use Rattle.state.proofs.Columns.{Kind, OfCandidate, OfCompleted, OfStarted, place, tag_of, place-injective, over-length, over-within, over-outside, over-is, three-length, three-within, three-past, three-is, over-over, three-three}
-use Rattle.state.proofs.Round.{policy-number, number-policy, cell-observation, observation-cell, flag-number, value-number, number-back, flag-enclave, value-enclave, enclave-back, inputs-back, stored_back, coordination-held, completion-held, gate-held, coordination-back, policy-below, observation-below, number-neat, enclave-neat, coordination-neat, first-neat, last-neat, both-neat, stored-neat, revision-neat}
+use Rattle.state.proofs.Round.{policy-number, number-policy, cell-observation, observation-cell, flag-number, value-number, number-back, flag-number, value-number, number-back, inputs-back, stored_back, coordination-held, completion-held, gate-held, coordination-back, policy-below, observation-below, number-neat, number-neat, coordination-neat, first-neat, last-neat, both-neat, stored-neat, revision-neat}
 
 -- ---- the same past the count
 
@@ -171,10 +172,10 @@ module _ (r : Held) (h : T (represents r)) where
   observation-told : (j : ℕ) → j < r.count → observation_cell (row_at r j).observation ≡ get_or r.observation j 0
   observation-told j l = cell-observation (get_or r.observation j 0) (place-parts r j (neat-place r h j l)).observation
 
-  flag-told : (j : ℕ) → is_numbered (row_at r j).completion_observed ≡ get_or r.acknowledged j false
+  flag-told : (j : ℕ) → is_some (row_at r j).completion_observed ≡ get_or r.acknowledged j false
   flag-told j = flag-number (get_or r.acknowledged j false) (get_or r.completion_observed j 0)
 
-  value-told : (j : ℕ) → j < r.count → number_in (row_at r j).completion_observed ≡ get_or r.completion_observed j 0
+  value-told : (j : ℕ) → j < r.count → unwrap_or (row_at r j).completion_observed 0 ≡ get_or r.completion_observed j 0
   value-told j l = value-number (get_or r.acknowledged j false) (get_or r.completion_observed j 0) (place-parts r j (neat-place r h j l)).observed
 
   granted-told : (n : ℕ) → 1 ≤ n → granted_of (tab (row_at r) 0 n) ≡ optional_of r.gate.granted
@@ -223,8 +224,8 @@ module _ (s r : Held) (z : Sized s) (few : s.count ≤ 32) (b : Beyond s r) wher
       let enclaves = column-held 0 s.enclaves r.enclaves (λ p. p.index) z.enclaves b.enclaves (λ j l. refl) in
       let published = column-held false s.published r.published (λ p. p.published) z.published b.published (λ j l. refl) in
       let observation = column-held 0 s.observation r.observation (λ p. observation_cell p.observation) z.observation b.observation (observation-told r h) in
-      let flag = column-held false s.acknowledged r.acknowledged (λ p. is_numbered p.completion_observed) z.acknowledged b.acknowledged (λ j l. flag-told r h j) in
-      let value = column-held 0 s.completion_observed r.completion_observed (λ p. number_in p.completion_observed) z.observed b.observed (value-told r h) in
+      let flag = column-held false s.acknowledged r.acknowledged (λ p. is_some p.completion_observed) z.acknowledged b.acknowledged (λ j l. flag-told r h j) in
+      let value = column-held 0 s.completion_observed r.completion_observed (λ p. unwrap_or p.completion_observed 0) z.observed b.observed (value-told r h) in
       let seconds = column-held-tags (pos 0) s.seconds r.seconds (λ t. t.seconds) z.seconds b.seconds (part-told r h (λ t. t.seconds)) in
       let nanoseconds = column-held-tags (pos 0) s.nanoseconds r.nanoseconds (λ t. t.nanoseconds) z.nanoseconds b.nanoseconds (part-told r h (λ t. t.nanoseconds)) in
       let microsteps = column-held-tags 0 s.microsteps r.microsteps (λ t. t.microstep) z.microsteps b.microsteps (part-told r h (λ t. t.microstep)) in
@@ -242,8 +243,8 @@ module _ (s r : Held) (z : Sized s) (few : s.count ≤ 32) (b : Beyond s r) wher
         completion = sym (completion-held r.completion (completion-parts r.completion v.completion)) k;
         gate = sym (gate-told r h s (let n = b.count in omega arith)) k;
         grant_horizon = sym (cell-optional r.grant_horizon v.horizon) k;
-        failed = sym (flag-enclave r.failed r.first_failure) k;
-        first_failure = sym (value-enclave r.failed r.first_failure v.failure) k;
+        failed = sym (flag-number r.failed r.first_failure) k;
+        first_failure = sym (value-number r.failed r.first_failure v.failure) k;
         lifecycle = sym (policy-number r.lifecycle v.policy) k;
       }
 
@@ -326,8 +327,8 @@ module _ (s : Held) (m : State) (z : Sized s) (same : length m.participants ≡ 
     row_put j h =
         let index = column-put 0 s.enclaves (λ p. p.index) z.enclaves j h in
         let published = column-put false s.published (λ p. p.published) z.published j h in
-        let flag = column-put false s.acknowledged (λ p. is_numbered p.completion_observed) z.acknowledged j h in
-        let value = column-put 0 s.completion_observed (λ p. number_in p.completion_observed) z.observed j h in
+        let flag = column-put false s.acknowledged (λ p. is_some p.completion_observed) z.acknowledged j h in
+        let value = column-put 0 s.completion_observed (λ p. unwrap_or p.completion_observed 0) z.observed j h in
         let observed = ap₂ number_if flag value ∙ number-back (nth j).completion_observed in
         let cell = column-put 0 s.observation (λ p. observation_cell p.observation) z.observation j h in
         let observation = ap observation_of cell ∙ observation-cell (nth j).observation in
@@ -365,7 +366,7 @@ view-put s m z same few f =
       pending_inputs = inputs-back m.pending_inputs f.inputs k;
       completion_generation = m.completion_generation;
       completion_probe = optional-cell m.completion_probe f.probe k;
-      first_failure = enclave-back m.first_failure k;
+      first_failure = number-back m.first_failure k;
       input_horizon = optional-cell m.input_horizon f.input_horizon k;
       input_acquisition = stored_back m.input_acquisition f.acquisition k;
     }
@@ -391,8 +392,8 @@ put-put s m n z x y few =
     let enclaves = column_again c ps qs x y few 0 s.enclaves (λ p. p.index) z.enclaves in
     let published = column_again c ps qs x y few false s.published (λ p. p.published) z.published in
     let observation = column_again c ps qs x y few 0 s.observation (λ p. observation_cell p.observation) z.observation in
-    let acknowledged = column_again c ps qs x y few false s.acknowledged (λ p. is_numbered p.completion_observed) z.acknowledged in
-    let observed = column_again c ps qs x y few 0 s.completion_observed (λ p. number_in p.completion_observed) z.observed in
+    let acknowledged = column_again c ps qs x y few false s.acknowledged (λ p. is_some p.completion_observed) z.acknowledged in
+    let observed = column_again c ps qs x y few 0 s.completion_observed (λ p. unwrap_or p.completion_observed 0) z.observed in
     let seconds = column-again-tags c ps qs x y few (pos 0) s.seconds (λ t. t.seconds) z.seconds in
     let nanoseconds = column-again-tags c ps qs x y few (pos 0) s.nanoseconds (λ t. t.nanoseconds) z.nanoseconds in
     let microsteps = column-again-tags c ps qs x y few 0 s.microsteps (λ t. t.microstep) z.microsteps in
@@ -437,8 +438,8 @@ beyond-put s m z same few = let n = s.count in let ps = m.participants in record
   enclaves = past-over n ps same few 0 s.enclaves (λ p. p.index) z.enclaves;
   published = past-over n ps same few false s.published (λ p. p.published) z.published;
   observation = past-over n ps same few 0 s.observation (λ p. observation_cell p.observation) z.observation;
-  acknowledged = past-over n ps same few false s.acknowledged (λ p. is_numbered p.completion_observed) z.acknowledged;
-  observed = past-over n ps same few 0 s.completion_observed (λ p. number_in p.completion_observed) z.observed;
+  acknowledged = past-over n ps same few false s.acknowledged (λ p. is_some p.completion_observed) z.acknowledged;
+  observed = past-over n ps same few 0 s.completion_observed (λ p. unwrap_or p.completion_observed 0) z.observed;
   seconds = past-over-tags n ps same few (pos 0) s.seconds (λ t. t.seconds) z.seconds;
   nanoseconds = past-over-tags n ps same few (pos 0) s.nanoseconds (λ t. t.nanoseconds) z.nanoseconds;
   microsteps = past-over-tags n ps same few 0 s.microsteps (λ t. t.microstep) z.microsteps;
@@ -459,8 +460,8 @@ module _ (s : Held) (m : State) (z : Sized s) (same : length m.participants ≡ 
   neat-put-place : (j : ℕ) → j < s.count → NeatPlace (put s m) j
   unfolding put
   neat-put-place j h =
-      let flag = column-put s m z same few (row_at s 0) false s.acknowledged (λ p. is_numbered p.completion_observed) z.acknowledged j h in
-      let value = column-put s m z same few (row_at s 0) 0 s.completion_observed (λ p. number_in p.completion_observed) z.observed j h in
+      let flag = column-put s m z same few (row_at s 0) false s.acknowledged (λ p. is_some p.completion_observed) z.acknowledged j h in
+      let value = column-put s m z same few (row_at s 0) 0 s.completion_observed (λ p. unwrap_or p.completion_observed 0) z.observed j h in
       let cell = column-put s m z same few (row_at s 0) 0 s.observation (λ p. observation_cell p.observation) z.observation j h in
       record {
         candidate = neat-put-tag OfCandidate j h;
@@ -489,7 +490,7 @@ module _ (s : Held) (m : State) (z : Sized s) (same : length m.participants ≡ 
       revision = revision-neat m.input_acquisition f.acquisition;
     });
     horizon = neat-cell m.grant_horizon f.horizon;
-    failure = enclave-neat m.first_failure;
+    failure = number-neat m.first_failure;
     policy = policy-below m.lifecycle;
   })
 

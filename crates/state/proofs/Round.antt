@@ -7,6 +7,7 @@ use mathlib.Core.Bool.{Bool, true, false, not, cond, ◌&&◌, ◌||◌}
 use Prim.Native.Nat.{ℕ, zero, suc, ◌≤◌}
 use native.Mathlib.Omega.{arith}
 use lib.Dec.{T, eqb, eqb→eq}
+use Rattle.std.specs.Option.{is_some, unwrap_or}
 use Rattle.tags.specs.Tags.{◌≡ₜ◌, is_proper, proper_if_present}
 use Rattle.records.specs.Numbers.{policy_number, phase_number}
 use Rattle.rules.specs.Model.{Tag, OptionalObservation, Unobserved, Observed, Probed, HasParked, Rechecked, OptionalAcquisition, NoneStored, Stored, OptionalInputs, NoInputs, Inputs, LifecyclePolicy, KeepAlive, TerminateWhenIdle, CoordinatedTermination, CoordinationPhase, Active, Probing, Parking, Rechecking, Parked, AwaitingIdleConfirmation, Stopped, State}
@@ -17,8 +18,8 @@ use Rattle.state.specs.declared.FederateCoordinationState.{FederateCoordinationS
 use Rattle.state.specs.declared.Coordination.{Coordination}
 use Rattle.state.specs.declared.Completion.{Completion}
 use Rattle.state.specs.declared.Gate.{Gate}
-use Rattle.state.specs.Cells.{absent, is_absent, optional_of, cell_of, is_neat, number_if, enclave_if, is_zero_unless, observation_of, phase_of, policy_of, publication_if, inputs_of, stored_of}
-use Rattle.state.specs.View.{view, is_numbered, number_in, observation_cell, is_named, enclave_in, coordination_by, first_of, last_of, stored_revision, stored_tag}
+use Rattle.state.specs.Cells.{absent, is_absent, optional_of, cell_of, is_neat, number_if, is_zero_unless, observation_of, phase_of, policy_of, publication_if, inputs_of, stored_of}
+use Rattle.state.specs.View.{view, observation_cell, coordination_by, first_of, last_of, stored_revision, stored_tag}
 use Rattle.state.proofs.Rows.{same_tag, cell-optional, optional-cell, neat-cell, proper-present}
 use Rattle.state.proofs.Neat.{neat_pending, NeatCoordination, NeatCompletion, NeatGate}
 
@@ -69,29 +70,17 @@ observation-cell (Observed Rechecked) = refl
 
 -- ---- numbers with a flag
 
-pub flag-number : (b : Bool) (n : ℕ) → is_numbered (number_if b n) ≡ b
+pub flag-number : (b : Bool) (n : ℕ) → is_some (number_if b n) ≡ b
 flag-number true n = refl
 flag-number false n = refl
 
-pub value-number : (b : Bool) (n : ℕ) → T (is_zero_unless b n) → number_in (number_if b n) ≡ n
+pub value-number : (b : Bool) (n : ℕ) → T (is_zero_unless b n) → unwrap_or (number_if b n) 0 ≡ n
 value-number true n h = refl
 value-number false n h = sym (eqb→eq n 0 h)
 
-pub number-back : (x : Option ℕ) → number_if (is_numbered x) (number_in x) ≡ x
+pub number-back : (x : Option ℕ) → number_if (is_some x) (unwrap_or x 0) ≡ x
 number-back None = refl
 number-back (Some n) = refl
-
-pub flag-enclave : (b : Bool) (n : ℕ) → is_named (enclave_if b n) ≡ b
-flag-enclave true n = refl
-flag-enclave false n = refl
-
-pub value-enclave : (b : Bool) (n : ℕ) → T (is_zero_unless b n) → enclave_in (enclave_if b n) ≡ n
-value-enclave true n h = refl
-value-enclave false n h = sym (eqb→eq n 0 h)
-
-pub enclave-back : (x : Option ℕ) → enclave_if (is_named x) (enclave_in x) ≡ x
-enclave-back None = refl
-enclave-back (Some e) = refl
 
 -- ---- the pair of inputs and the stored acquisition
 
@@ -268,13 +257,9 @@ observation-below (Observed Probed) = omega arith
 observation-below (Observed HasParked) = omega arith
 observation-below (Observed Rechecked) = omega arith
 
-pub number-neat : (x : Option ℕ) → T (is_zero_unless (is_numbered x) (number_in x))
+pub number-neat : (x : Option ℕ) → T (is_zero_unless (is_some x) (unwrap_or x 0))
 number-neat None = tt
 number-neat (Some n) = tt
-
-pub enclave-neat : (x : Option ℕ) → T (is_zero_unless (is_named x) (enclave_in x))
-enclave-neat None = tt
-enclave-neat (Some e) = tt
 
 neat-absent : T (is_neat absent)
 neat-absent = neat-cell None tt

@@ -2,6 +2,7 @@
 -- values hold a state of document 01: no hidden cell, so that each has one representation. The one file that names the fields of both. Assumes nothing.
 use Rattle.records.specs.declared.FederatePublication.{FederatePublication}
 use Rattle.std.specs.Prelude.{Bool, true, false, not, cond, ◌&&◌, List, [], ◌∷◌, ◌++◌, map, ℕ, ◌+◌, eqb, leb, length, get_or, take, drop, None, Option, Some}
+use Rattle.std.specs.Option.{is_some, unwrap_or}
 use Rattle.tags.specs.Tags.{◌≡ₜ◌}
 use Rattle.records.specs.Numbers.{policy_number, phase_number, observation_number}
 use Rattle.rules.specs.Model.{Tag, OptionalObservation, Unobserved, Observed, OptionalAcquisition, NoneStored, Stored, OptionalInputs, NoInputs, Inputs, Participant, State}
@@ -10,7 +11,7 @@ use Rattle.state.specs.declared.Coordination.{Coordination}
 use Rattle.state.specs.declared.Completion.{Completion}
 use Rattle.state.specs.declared.Gate.{Gate}
 use Rattle.state.specs.Walk.{tab, all_of}
-use Rattle.state.specs.Cells.{absent, is_absent, optional_of, cell_of, is_neat, tag_in, number_if, enclave_if, is_zero_unless, observation_of, phase_of, policy_of, publication_if, inputs_of, stored_of}
+use Rattle.state.specs.Cells.{absent, is_absent, optional_of, cell_of, is_neat, tag_in, number_if, is_zero_unless, observation_of, phase_of, policy_of, publication_if, inputs_of, stored_of}
 
 -- ---- reading
 
@@ -46,7 +47,7 @@ view s = record {
   pending_inputs = inputs_of s.completion.first_input s.completion.last_input;
   completion_generation = s.completion.completion_generation;
   completion_probe = optional_of s.completion.completion_probe;
-  first_failure = enclave_if s.failed s.first_failure;
+  first_failure = number_if s.failed s.first_failure;
   input_horizon = optional_of s.gate.input_horizon;
   input_acquisition = stored_of s.gate.stored_revision s.gate.stored_granted;
 }
@@ -92,25 +93,9 @@ over_tags part l ps =
     64
     (map (λ p. part (cell_of p.started)) ps)
 
-abbrev pub is_numbered : Option ℕ → Bool
-is_numbered None = false
-is_numbered (Some n) = true
-
-abbrev pub number_in : Option ℕ → ℕ
-number_in None = 0
-number_in (Some n) = n
-
 abbrev pub observation_cell : OptionalObservation → ℕ
 observation_cell Unobserved = 0
 observation_cell (Observed o) = observation_number o + 1
-
-abbrev pub is_named : Option ℕ → Bool
-is_named None = false
-is_named (Some e) = true
-
-abbrev pub enclave_in : Option ℕ → ℕ
-enclave_in None = 0
-enclave_in (Some e) = e
 
 -- one tag is granted to all: the first participant's
 abbrev pub granted_of : List Participant → Option Tag
@@ -121,8 +106,8 @@ abbrev pub coordination_by : Option FederatePublication → State → Coordinati
 coordination_by None m = record {
   revision = m.revision;
   phase = phase_number m.phase;
-  authorized = is_numbered m.idle_authorization;
-  idle_authorization = number_in m.idle_authorization;
+  authorized = is_some m.idle_authorization;
+  idle_authorization = unwrap_or m.idle_authorization 0;
   pending = false;
   pending_revision = 0;
   pending_next_event = absent;
@@ -131,8 +116,8 @@ coordination_by None m = record {
 coordination_by (Some p) m = record {
   revision = m.revision;
   phase = phase_number m.phase;
-  authorized = is_numbered m.idle_authorization;
-  idle_authorization = number_in m.idle_authorization;
+  authorized = is_some m.idle_authorization;
+  idle_authorization = unwrap_or m.idle_authorization 0;
   pending = true;
   pending_revision = p.revision;
   pending_next_event = cell_of p.next_event;
@@ -161,8 +146,8 @@ put s m = record {
   enclaves = over s.enclaves 0 (map (λ p. p.index) m.participants);
   published = over s.published 0 (map (λ p. p.published) m.participants);
   observation = over s.observation 0 (map (λ p. observation_cell p.observation) m.participants);
-  acknowledged = over s.acknowledged 0 (map (λ p. is_numbered p.completion_observed) m.participants);
-  completion_observed = over s.completion_observed 0 (map (λ p. number_in p.completion_observed) m.participants);
+  acknowledged = over s.acknowledged 0 (map (λ p. is_some p.completion_observed) m.participants);
+  completion_observed = over s.completion_observed 0 (map (λ p. unwrap_or p.completion_observed 0) m.participants);
   seconds = over_tags (λ t. t.seconds) s.seconds m.participants;
   nanoseconds = over_tags (λ t. t.nanoseconds) s.nanoseconds m.participants;
   microsteps = over_tags (λ t. t.microstep) s.microsteps m.participants;
@@ -181,7 +166,7 @@ put s m = record {
     granted = cell_of (granted_of m.participants);
   };
   grant_horizon = cell_of m.grant_horizon;
-  failed = is_named m.first_failure;
-  first_failure = enclave_in m.first_failure;
+  failed = is_some m.first_failure;
+  first_failure = unwrap_or m.first_failure 0;
   lifecycle = policy_number m.lifecycle;
 }
