@@ -1,5 +1,5 @@
 -- A section's first line by its spaces: without one, or with two, it tells no count, and with one it tells the number after its word. Assumes nothing.
-use Rattle.std.specs.Prelude.{None, Some}
+use Rattle.std.specs.Prelude.{None}
 use mathlib.Core.Path.{◌≡◌, refl, sym, ◌∙◌}
 use mathlib.Core.Bool.{cond}
 use mathlib.Core.List.{List, ◌∷◌}

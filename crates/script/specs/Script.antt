@@ -44,6 +44,13 @@ policy_of line =
 abbrev pub ended : List ℕ → Script → ℕ → Reading Script
 ended bytes script at = cond (eqb at (length bytes)) (Good script at) (Bad at)
 
+-- how many events there are, with the place of the first
+abbrev pub counted_events : List ℕ → ℕ → Reading ℕ
+counted_events bytes at =
+    and_then (item (header_of (text "events") 4096) bytes at)
+    (λ count first. and_then (items count event_of bytes first)
+    (λ events last. cond (eqb last (length bytes)) (Good count first) (Bad last)))
+
 abbrev pub events_of : List ℕ → List ℕ → LifecyclePolicy → ℕ → ℕ → ℕ → Reading Script
 events_of bytes participants policy revision generation at =
     and_then (item (header_of (text "events") 4096) bytes at)

@@ -8,21 +8,30 @@ ghost use Rattle.numerals.specs.Numerals.{number_of};
 ghost use Rattle.events.specs.Events.{word_of, event_of};
 ghost use Rattle.events.specs.Told.{is_given};
 ghost use Rattle.script.specs.Lines.{item, items};
-ghost use Rattle.script.specs.Script.{header_of, is_three, settings_of, policy_of, events_of, settings_and_events_of};
-ghost use Rattle.script.specs.Read.{refused_at, answered, read_script_of};
-ghost use Rattle.script.specs.Told.{told_count, told_choice, passed_of, gathered, Kept};
+ghost use Rattle.script.specs.Script.{header_of, is_three, settings_of, policy_of, counted_events, settings_and_events_of};
+ghost use Rattle.script.specs.Read.{bad_line, answered, read_script_of};
+ghost use Rattle.script.specs.Told.{read_of, passed_of, gathered, Kept};
 
-use events::Event;
 use records::{LifecyclePolicy, Refusal};
 
-// `Taken` and what the script says, its events by their place and number; or why it is refused and, for 11, at which place.
-// Of the participants the first 33 are kept: at most 32 open, and a thirty-third says that there are too many.
+// Why a script is refused and, for 11, at which place.
+#[derive(Clone, Copy)]
+pub struct BadScript {
+    pub refusal: Refusal,
+    pub place: usize,
+}
+
+// The first 33 of the participants, with 0 after them, and how many these are: at most 32 open, and a thirty-third says that there are too many.
+#[derive(Clone, Copy)]
+pub struct Participants {
+    pub indices: [u32; 33],
+    pub count: usize,
+}
+
+// What a script says, its events by their place and number.
 #[derive(Clone, Copy)]
 pub struct ReadScript {
-    pub refusal: Option<Refusal>,
-    pub place: usize,
-    pub participants: [u32; 33],
-    pub count: usize,
+    pub participants: Participants,
     pub policy: LifecyclePolicy,
     pub revision: u64,
     pub generation: u64,
@@ -30,33 +39,13 @@ pub struct ReadScript {
     pub events: usize,
 }
 
-// A line that tells a number, with the place after it.
-#[derive(Clone, Copy)]
-enum Counted {
-    BadLine,
-    Count(u64, usize),
-}
-
-// A line that tells a policy, with the place after it.
-#[derive(Clone, Copy)]
-enum Chosen {
-    NoChoice,
-    Choice(LifecyclePolicy, usize),
-}
-
-// Lines passed over: the place of a bad one, or the place after them.
-#[derive(Clone, Copy)]
-enum Passed {
-    BadAt(usize),
-    EndsAt(usize),
-}
-
-// The participants' lines passed over, with the first 33 of their indices.
-#[derive(Clone, Copy)]
-struct Participants {
-    passed: Passed,
-    indices: [u32; 33],
-    count: usize,
+fn bad_line(place: usize) -> BadScript
+    ensures { result ≡ bad_line place }
+{
+    BadScript {
+        refusal: Refusal::ScriptOutOfForm,
+        place,
+    }
 }
 
 // ---- items
@@ -84,97 +73,87 @@ fn header(line: &[u8], word: &[u8], most: u64) -> Option<u64>
 fn only_three(read: Option<u64>) -> Option<u64>
     ensures { result ≡ is_three read }
 {
-    let Some(n) = read else {
-        return None;
-    };
-    if n == 3 {
-        return Some(n);
+    read.filter(|n| *n == 3)
+}
+
+fn policy(line: &[u8]) -> Option<LifecyclePolicy>
+    ensures { result ≡ policy_of line.now }
+{
+    if octets::same_bytes(line, b"keep") {
+        return Some(LifecyclePolicy::KeepAlive);
+    }
+    if octets::same_bytes(line, b"terminate") {
+        return Some(LifecyclePolicy::TerminateWhenIdle);
+    }
+    if octets::same_bytes(line, b"coordinated") {
+        return Some(LifecyclePolicy::CoordinatedTermination);
     }
     None
 }
 
-// The line at a place, where its text was read as this number.
-fn count_at(script: &[u8], at: usize, read: Option<u64>) -> Counted
-    ensures { told_count at result ≡ item (λ line. read) script.now at }
+// The line at a place, whose text was read as this, with the place after it.
+fn item_at<T: Copy>(script: &[u8], at: usize, read: Option<T>) -> Result<(T, usize), BadScript>
+    ensures { result ≡ read_of (item (λ line. read) script.now at) }
 {
     if !reader::is_ended(script, at) {
-        return Counted::BadLine;
+        return Err(bad_line(at));
     }
-    let Some(n) = read else {
-        return Counted::BadLine;
+    let Some(x) = read else {
+        return Err(bad_line(at));
     };
     let next = reader::place_after(script, at);
-    Counted::Count(n, next)
+    Ok((x, next))
 }
 
-fn header_at(script: &[u8], at: usize, word: &[u8], most: u64) -> Counted
-    ensures { told_count at result ≡ item (header_of word.now most) script.now at }
+fn header_at(script: &[u8], at: usize, word: &[u8], most: u64) -> Result<(u64, usize), BadScript>
+    ensures { result ≡ read_of (item (header_of word.now most) script.now at) }
 {
     let line = reader::line_from(script, at);
-    let read = header(line, word, most);
-    count_at(script, at, read)
+    item_at(script, at, header(line, word, most))
 }
 
-fn settings_at(script: &[u8], at: usize) -> Counted
-    ensures { told_count at result ≡ item settings_of script.now at }
+fn settings_at(script: &[u8], at: usize) -> Result<(u64, usize), BadScript>
+    ensures { result ≡ read_of (item settings_of script.now at) }
 {
     let line = reader::line_from(script, at);
-    let read = only_three(header(line, b"settings", 4294967295));
-    count_at(script, at, read)
+    item_at(
+        script,
+        at,
+        only_three(header(line, b"settings", 4294967295)),
+    )
 }
 
-fn number_at(script: &[u8], at: usize, most: u64) -> Counted
-    ensures { told_count at result ≡ item (number_of most) script.now at }
+fn number_at(script: &[u8], at: usize, most: u64) -> Result<(u64, usize), BadScript>
+    ensures { result ≡ read_of (item (number_of most) script.now at) }
 {
     let line = reader::line_from(script, at);
-    let read = numerals::number(line, most);
-    count_at(script, at, read)
+    item_at(script, at, numerals::number(line, most))
 }
 
-fn policy_at(script: &[u8], at: usize) -> Chosen
-    ensures { told_choice at result ≡ item policy_of script.now at }
+fn policy_at(script: &[u8], at: usize) -> Result<(LifecyclePolicy, usize), BadScript>
+    ensures { result ≡ read_of (item policy_of script.now at) }
 {
-    if !reader::is_ended(script, at) {
-        return Chosen::NoChoice;
-    }
     let line = reader::line_from(script, at);
-    let next = reader::place_after(script, at);
-    if octets::same_bytes(line, b"keep") {
-        return Chosen::Choice(LifecyclePolicy::KeepAlive, next);
-    }
-    if octets::same_bytes(line, b"terminate") {
-        return Chosen::Choice(LifecyclePolicy::TerminateWhenIdle, next);
-    }
-    if octets::same_bytes(line, b"coordinated") {
-        return Chosen::Choice(LifecyclePolicy::CoordinatedTermination, next);
-    }
-    Chosen::NoChoice
+    item_at(script, at, policy(line))
 }
 
 // Whether the line is an event.
 pub fn is_event(line: &[u8]) -> bool
     ensures { result ≡ is_given (event_of line.now) }
 {
-    let event = eventlines::read_event(line);
-    if let Event::NoEvent = event {
-        false
-    } else {
-        true
-    }
+    eventlines::read_event(line).is_some()
 }
 
-fn pass_event(script: &[u8], at: usize) -> Passed
+// The place after the event at a place.
+fn pass_event(script: &[u8], at: usize) -> Result<usize, BadScript>
     ensures { result ≡ passed_of (item event_of script.now at) }
 {
     if !reader::is_ended(script, at) {
-        return Passed::BadAt(at);
+        return Err(bad_line(at));
     }
     let line = reader::line_from(script, at);
     let next = reader::place_after(script, at);
-    if is_event(line) {
-        return Passed::EndsAt(next);
-    }
-    Passed::BadAt(at)
+    is_event(line).then_some(next).ok_or(bad_line(at))
 }
 
 // ---- sections
@@ -189,144 +168,83 @@ fn put_index(indices: &mut [u32; 33], place: u64, index: u64)
     }
 }
 
-fn read_participants(script: &[u8], from: usize, number: u64) -> Participants
+// So many participants' lines, with the place after them.
+fn read_participants(
+    script: &[u8],
+    from: usize,
+    number: u64,
+) -> Result<(Participants, usize), BadScript>
     ensures { result ≡ gathered (replicate 33 0) 0 (items number word_of script.now from) }
 {
     let mut indices: [u32; 33] = [0; 33];
     let mut at = from;
-    let mut read: u64 = 0;
-    while read < number {
-        let line = number_at(script, at, 4294967295);
-        let Counted::Count(index, next) = line else {
-            return Participants {
-                passed: Passed::BadAt(at),
-                indices: [0; 33],
-                count: 0,
-            };
-        };
-        put_index(&mut indices, read, index);
+    for k in 0..number {
+        let (index, next) = number_at(script, at, 4294967295)?;
+        put_index(&mut indices, k, index);
         at = next;
-        read += 1;
     }
-    let count = if read < 33 { read as usize } else { 33 };
-    Participants {
-        passed: Passed::EndsAt(at),
-        indices,
-        count,
-    }
+    let count = if number < 33 { number as usize } else { 33 };
+    Ok((Participants { indices, count }, at))
 }
 
-fn pass_events(script: &[u8], from: usize, number: u64) -> Passed
+// The place after so many events.
+fn pass_events(script: &[u8], from: usize, number: u64) -> Result<usize, BadScript>
     ensures { result ≡ passed_of (items number event_of script.now from) }
 {
     let mut at = from;
-    let mut left = number;
-    while 0 < left {
-        let passed = pass_event(script, at);
-        let Passed::EndsAt(next) = passed else {
-            return passed;
-        };
-        at = next;
-        left -= 1;
+    for k in 0..number {
+        at = pass_event(script, at)?;
     }
-    Passed::EndsAt(at)
+    Ok(at)
 }
 
 // ---- the script
 
-fn refused(refusal: Option<Refusal>, place: usize) -> ReadScript
-    ensures { result ≡ refused_at refusal place }
+// How many events there are, up to the script's end, and the place of the first.
+fn read_events(bytes: &[u8], at: usize) -> Result<(u64, usize), BadScript>
+    ensures { result ≡ read_of (counted_events bytes.now at) }
 {
-    ReadScript {
-        refusal,
-        place,
-        participants: [0; 33],
-        count: 0,
-        policy: LifecyclePolicy::KeepAlive,
-        revision: 0,
-        generation: 0,
-        events_at: 0,
-        events: 0,
-    }
-}
-
-fn read_events(
-    bytes: &[u8],
-    participants: [u32; 33],
-    count: usize,
-    policy: LifecyclePolicy,
-    revision: u64,
-    generation: u64,
-    at: usize,
-) -> ReadScript
-    ensures { (ps : List ℕ) → Kept ps participants count → result ≡ answered (events_of bytes.now ps policy revision generation at) }
-{
-    let Counted::Count(events, first) = header_at(bytes, at, b"events", 4096) else {
-        return refused(Some(Refusal::ScriptOutOfForm), at);
-    };
-    let last = match pass_events(bytes, first, events) {
-        Passed::BadAt(place) => return refused(Some(Refusal::ScriptOutOfForm), place),
-        Passed::EndsAt(last) => last,
-    };
+    let (events, first) = header_at(bytes, at, b"events", 4096)?;
+    let last = pass_events(bytes, first, events)?;
     if last != bytes.len() {
-        return refused(Some(Refusal::ScriptOutOfForm), last);
+        return Err(bad_line(last));
     }
-    ReadScript {
-        refusal: None,
-        place: 0,
-        participants,
-        count,
-        policy,
-        revision,
-        generation,
-        events_at: first,
-        events: events as usize,
-    }
+    Ok((events, first))
 }
 
-fn read_settings(bytes: &[u8], participants: [u32; 33], count: usize, at: usize) -> ReadScript
-    ensures { (ps : List ℕ) → Kept ps participants count → result ≡ answered (settings_and_events_of bytes.now ps at) }
+fn read_settings(
+    bytes: &[u8],
+    participants: Participants,
+    at: usize,
+) -> Result<ReadScript, BadScript>
+    ensures { (ps : List ℕ) → Kept ps participants → result ≡ answered (settings_and_events_of bytes.now ps at) }
 {
-    let Counted::Count(_, second) = settings_at(bytes, at) else {
-        return refused(Some(Refusal::ScriptOutOfForm), at);
-    };
-    let Chosen::Choice(policy, third) = policy_at(bytes, second) else {
-        return refused(Some(Refusal::ScriptOutOfForm), second);
-    };
-    let Counted::Count(revision, fourth) = number_at(bytes, third, 18446744073709551615) else {
-        return refused(Some(Refusal::ScriptOutOfForm), third);
-    };
-    let Counted::Count(generation, fifth) = number_at(bytes, fourth, 18446744073709551615) else {
-        return refused(Some(Refusal::ScriptOutOfForm), fourth);
-    };
-    read_events(
-        bytes,
+    let (_, second) = settings_at(bytes, at)?;
+    let (policy, third) = policy_at(bytes, second)?;
+    let (revision, fourth) = number_at(bytes, third, u64::MAX)?;
+    let (generation, fifth) = number_at(bytes, fourth, u64::MAX)?;
+    let (events, events_at) = read_events(bytes, fifth)?;
+    Ok(ReadScript {
         participants,
-        count,
         policy,
         revision,
         generation,
-        fifth,
-    )
+        events_at,
+        events: events as usize,
+    })
 }
 
 // What a script says, or its refusal: 12, then 11 with the place of the first bad line.
-pub fn read_script(bytes: &[u8]) -> ReadScript
+pub fn read_script(bytes: &[u8]) -> Result<ReadScript, BadScript>
     ensures { result ≡ read_script_of bytes.now }
 {
     if 65536 < bytes.len() {
-        return refused(Some(Refusal::ScriptTooLong), 0);
+        return Err(BadScript {
+            refusal: Refusal::ScriptTooLong,
+            place: 0,
+        });
     }
-    let Counted::Count(number, first) = header_at(bytes, 0, b"participants", 4294967295) else {
-        return refused(Some(Refusal::ScriptOutOfForm), 0);
-    };
-    let read = read_participants(bytes, first, number);
-    let passed = read.passed;
-    match passed {
-        Passed::BadAt(place) => refused(Some(Refusal::ScriptOutOfForm), place),
-        Passed::EndsAt(next) => {
-            let indices = read.indices;
-            read_settings(bytes, indices, read.count, next)
-        }
-    }
+    let (number, first) = header_at(bytes, 0, b"participants", 4294967295)?;
+    let (participants, next) = read_participants(bytes, first, number)?;
+    read_settings(bytes, participants, next)
 }

@@ -6,8 +6,8 @@ use Rattle.script.specs.Lines.{items}
 use Rattle.script.specs.Told.{gathered}
 use Rattle.script.proofs.read_participants.Given as goal
 
-abbrev pub invariant-loop-read : goal.invariant-loop-read
-invariant-loop-read l = (gathered (replicate 33 0) 0 (items l.number word_of l.script l.from) ≡ gathered l.indices l.read (items (l.number - l.read) word_of l.script l.at)) × (length l.indices ≡ 33)
-
-abbrev pub decreases-loop-read : goal.decreases-loop-read
-decreases-loop-read l = l.number - l.read
+abbrev pub invariant-loop-k : goal.invariant-loop-k
+invariant-loop-k l = record {
+  rest : gathered (replicate 33 0) 0 (items l.number word_of l.script l.from) ≡ gathered l.indices l.k (items (l.number - l.k) word_of l.script l.at);
+  long : length l.indices ≡ 33;
+}
