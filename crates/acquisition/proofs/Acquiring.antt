@@ -1,7 +1,7 @@
 -- A taken acquisition keeps its promise: the state with what `acquire` decided holds a state of document 01, is the entry state past the count and
 -- shows the rule's, and the records written one after the other are those of the rule's actions. Assumes nothing.
 use Rattle.std.specs.Prelude.{None, Some}
-use mathlib.Core.Path.{◌≡◌, refl, sym, ap, ◌∙◌, subst}
+use mathlib.Core.Path.{◌≡◌, refl, sym, ap, subst}
 use mathlib.Core.Bool.{Bool, true, false}
 use mathlib.Core.List.{List, [], ◌∷◌}
 use Prim.Native.Nat.{ℕ, ◌+◌, ◌*◌, ◌≤◌}

@@ -5,14 +5,11 @@ use mathlib.Core.Bool.{Bool, true, false, ◌&&◌}
 use Prim.Native.Nat.{◌+◌, ◌*◌, ◌≤◌}
 use native.Mathlib.Omega.{arith}
 use lib.ListN.{length}
-use borrow.Author.Tests.{not-true, not-false}
 use borrow.Author.Rules.{rules}
 use Rattle.std.specs.Option.{is_some}
 use Rattle.tags.specs.Tags.{is_proper}
 use Rattle.records.specs.Numbers.{refusal_number}
 use Rattle.rules.specs.Model.{acquire}
-use Rattle.rules.specs.Calls.{is_sound}
-use Rattle.state.specs.View.{view, represents}
 use Rattle.state.specs.Parts.{Sized}
 use Rattle.calls.specs.Called.{lent, room_first}
 use Rattle.calls.proofs.Refusals.{refuses, refuses-none}

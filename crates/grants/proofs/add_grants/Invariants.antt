@@ -1,6 +1,4 @@
-use mathlib.Core.Path.{◌≡◌}
 use Prim.Native.Nat.{◌≤◌, ◌+◌}
-use lib.ListN.{length}
 use Rattle.emission.specs.Written.{Adds}
 use Rattle.grants.specs.Acquire.{grants_of}
 use Rattle.grants.proofs.add_grants.Given as goal
