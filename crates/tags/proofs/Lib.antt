@@ -1,2 +1,2 @@
+pub mod Derived
 pub mod Order
-pub mod Signs

@@ -3,7 +3,6 @@
 #![tactic(auto)]
 
 ghost use Rattle.std.specs.Prelude.{◌≡◌};
-ghost use Rattle.std.specs.Int.Signed.{lt_z};
 ghost use Rattle.tags.specs.Tags.{◌≤ₜ◌, ◌≡ₜ◌, lesser_of, greater_of, never, zero, forever, within_second, opposite_signs, proper_time, is_proper};
 ghost use Rattle.tags.specs.Tags.{proper_if_present, is_present, is_below, is_at_or_below, within, same_optional};
 ghost use Rattle.tags.specs.Tags.{lesser_present, greater_present, lesser_of_both, capped_by};
@@ -43,53 +42,40 @@ impl Tag {
     };
 }
 
-// The least tag.
+// The constants as functions. Kept: what may not change, public functions whose promises say what the constants are.
 pub fn never() -> Tag
     ensures { result ≡ never }
 {
     Tag::NEVER
 }
 
-// The origin of logical time.
 pub fn zero() -> Tag
     ensures { result ≡ zero }
 {
     Tag::ZERO
 }
 
-// The greatest tag.
 pub fn forever() -> Tag
     ensures { result ≡ forever }
 {
     Tag::FOREVER
 }
 
-fn seconds_below(a: Tag, b: Tag) -> bool
-    ensures { result ≡ lt_z a.seconds b.seconds }
-{
-    a.seconds < b.seconds
-}
-
-fn nanoseconds_below(a: Tag, b: Tag) -> bool
-    ensures { result ≡ lt_z a.nanoseconds b.nanoseconds }
-{
-    a.nanoseconds < b.nanoseconds
-}
-
 // Whether a is at or below b in the order of tags.
+// Kept: derived, `a <= b`, a call by value took 1,467 and 2,481 instructions at n = 1 and 32, in place of 1,447 and 2,448.
 pub fn at_or_below(a: Tag, b: Tag) -> bool
     ensures { result ≡ (a ≤ₜ b) }
 {
-    if seconds_below(a, b) {
+    if a.seconds < b.seconds {
         return true;
     }
-    if seconds_below(b, a) {
+    if b.seconds < a.seconds {
         return false;
     }
-    if nanoseconds_below(a, b) {
+    if a.nanoseconds < b.nanoseconds {
         return true;
     }
-    if nanoseconds_below(b, a) {
+    if b.nanoseconds < a.nanoseconds {
         return false;
     }
     a.microstep <= b.microstep
@@ -99,55 +85,41 @@ pub fn at_or_below(a: Tag, b: Tag) -> bool
 pub fn same_tag(a: Tag, b: Tag) -> bool
     ensures { result ≡ (a ≡ₜ b) }
 {
-    if at_or_below(a, b) {
-        return at_or_below(b, a);
-    }
-    false
+    a == b
 }
 
 // The lesser of the two.
 pub fn lesser(a: Tag, b: Tag) -> Tag
     ensures { result ≡ lesser_of a b }
 {
-    if at_or_below(a, b) { a } else { b }
+    a.min(b)
 }
 
 // The greater of the two.
 pub fn greater(a: Tag, b: Tag) -> Tag
     ensures { result ≡ greater_of a b }
 {
-    if at_or_below(a, b) { b } else { a }
+    a.max(b)
 }
 
 fn within_second(nanoseconds: i32) -> bool
     ensures { result ≡ within_second nanoseconds }
 {
-    if -999999999 <= nanoseconds {
-        return nanoseconds <= 999999999;
-    }
-    false
+    -999999999 <= nanoseconds && nanoseconds <= 999999999
 }
 
 fn opposite_signs(seconds: i64, nanoseconds: i32) -> bool
     ensures { result ≡ opposite_signs seconds nanoseconds }
 {
-    if 0 < seconds {
-        return nanoseconds < 0;
-    }
-    if seconds < 0 {
-        return 0 < nanoseconds;
-    }
-    false
+    0 < seconds && nanoseconds < 0 || seconds < 0 && 0 < nanoseconds
 }
 
 // Whether the time is proper: nanoseconds within a second and not of the sign opposite to the seconds'.
+#[tactic(auto, unfolding(crate::specs::Tags::proper_time))]
 pub fn is_proper_time(seconds: i64, nanoseconds: i32) -> bool
     ensures { result ≡ proper_time seconds nanoseconds }
 {
-    if within_second(nanoseconds) {
-        return !opposite_signs(seconds, nanoseconds);
-    }
-    false
+    within_second(nanoseconds) && !opposite_signs(seconds, nanoseconds)
 }
 
 // Whether the tag's time is proper.
@@ -161,78 +133,51 @@ pub fn is_proper(t: Tag) -> bool
 pub fn proper_if_present(m: Option<Tag>) -> bool
     ensures { result ≡ proper_if_present m }
 {
-    match m {
-        None => true,
-        Some(t) => is_proper(t),
-    }
+    m.is_none_or(is_proper)
 }
 
 // Whether there is a tag.
 pub fn is_present(m: Option<Tag>) -> bool
     ensures { result ≡ is_present m }
 {
-    match m {
-        None => false,
-        Some(_) => true,
-    }
+    m.is_some()
 }
 
 // Whether m is below f, as an absent completed tag or frontier is of every tag.
 pub fn is_below(m: Option<Tag>, f: Tag) -> bool
     ensures { result ≡ is_below m f }
 {
-    match m {
-        None => true,
-        Some(a) => !at_or_below(f, a),
-    }
+    m.is_none_or(|a| !at_or_below(f, a))
 }
 
 // Whether m is present and at or below f.
 pub fn is_at_or_below(m: Option<Tag>, f: Tag) -> bool
     ensures { result ≡ is_at_or_below m f }
 {
-    match m {
-        None => false,
-        Some(a) => at_or_below(a, f),
-    }
+    m.is_some_and(|a| at_or_below(a, f))
 }
 
 // Whether m is present and t at or below it.
 pub fn is_within(t: Tag, m: Option<Tag>) -> bool
     ensures { result ≡ within t m }
 {
-    match m {
-        None => false,
-        Some(g) => at_or_below(t, g),
-    }
+    m.is_some_and(|g| at_or_below(t, g))
 }
 
 // Whether both are absent or both the same tag.
 pub fn same_optional(m: Option<Tag>, n: Option<Tag>) -> bool
     ensures { result ≡ same_optional m n }
 {
-    match m {
-        None => match n {
-            None => true,
-            Some(_) => false,
-        },
-        Some(a) => match n {
-            None => false,
-            Some(b) => same_tag(a, b),
-        },
-    }
+    m == n
 }
 
 // The lesser of those present.
 pub fn lesser_present(m: Option<Tag>, n: Option<Tag>) -> Option<Tag>
     ensures { result ≡ lesser_present m n }
 {
-    match m {
-        None => n,
-        Some(a) => match n {
-            None => m,
-            Some(b) => Some(lesser(a, b)),
-        },
+    match (m, n) {
+        (Some(a), Some(b)) => Some(lesser(a, b)),
+        _ => m.or(n),
     }
 }
 
@@ -240,12 +185,9 @@ pub fn lesser_present(m: Option<Tag>, n: Option<Tag>) -> Option<Tag>
 pub fn greater_present(m: Option<Tag>, n: Option<Tag>) -> Option<Tag>
     ensures { result ≡ greater_present m n }
 {
-    match m {
-        None => n,
-        Some(a) => match n {
-            None => m,
-            Some(b) => Some(greater(a, b)),
-        },
+    match (m, n) {
+        (Some(a), Some(b)) => Some(greater(a, b)),
+        _ => m.or(n),
     }
 }
 
@@ -253,21 +195,12 @@ pub fn greater_present(m: Option<Tag>, n: Option<Tag>) -> Option<Tag>
 pub fn lesser_of_both(m: Option<Tag>, n: Option<Tag>) -> Option<Tag>
     ensures { result ≡ lesser_of_both m n }
 {
-    match m {
-        None => m,
-        Some(a) => match n {
-            None => n,
-            Some(b) => Some(lesser(a, b)),
-        },
-    }
+    m.zip(n).map(|(a, b)| lesser(a, b))
 }
 
 // The lesser of t and the cap, or t where there is no cap.
 pub fn capped_by(m: Option<Tag>, t: Tag) -> Tag
     ensures { result ≡ capped_by m t }
 {
-    match m {
-        None => t,
-        Some(c) => lesser(t, c),
-    }
+    m.map_or(t, |c| lesser(t, c))
 }

@@ -4,21 +4,21 @@ use Rattle.tags.specs.Branches.{branches}
 use Rattle.tags.specs.Tags.{◌≤ₜ◌}
 use Rattle.tags.proofs.at_or_below.Goals as goal
 
-pub returns-then-seconds_below : goal.returns-then-seconds_below
+pub returns-then-a-b : goal.returns-then-a-b
 unfolding ◌≤ₜ◌
-returns-then-seconds_below c = search (rules, branches) depth 12
+returns-then-a-b c = search (rules, branches) depth 12
 
-pub returns-then-seconds_below-2 : goal.returns-then-seconds_below-2
+pub returns-then-b-a : goal.returns-then-b-a
 unfolding ◌≤ₜ◌
-returns-then-seconds_below-2 c = search (rules, branches) depth 12
+returns-then-b-a c = search (rules, branches) depth 12
 
-pub returns-then-nanoseconds_below : goal.returns-then-nanoseconds_below
+pub returns-then-a-b-2 : goal.returns-then-a-b-2
 unfolding ◌≤ₜ◌
-returns-then-nanoseconds_below c = search (rules, branches) depth 12
+returns-then-a-b-2 c = search (rules, branches) depth 12
 
-pub returns-then-nanoseconds_below-2 : goal.returns-then-nanoseconds_below-2
+pub returns-then-b-a-2 : goal.returns-then-b-a-2
 unfolding ◌≤ₜ◌
-returns-then-nanoseconds_below-2 c = search (rules, branches) depth 12
+returns-then-b-a-2 c = search (rules, branches) depth 12
 
 pub returns : goal.returns
 unfolding ◌≤ₜ◌
