@@ -9,11 +9,10 @@ use lib.IntN.{ℤ, pos, negsuc}
 use lib.ListN.{length, drop, get_or}
 use lib.Pow.{pow_pos}
 use borrow.Author.Tests.{eq-eqb, ne_eqb}
-use mir.Syntax.{Width, w32, w64}
+use mir.Syntax.{Width, w64}
 use mir.Val.{SFits, hbits, to_z}
 use mir.Facts.{to_z-neg}
 use Rattle.numerals.specs.Numerals.{number_of, negated, unsigned, integer_of, minus}
-use Rattle.numerals.specs.Told.{Narrow}
 use Rattle.numerals.proofs.Splits.{by-test}
 use Rattle.numerals.proofs.Numbers.{number-le}
 
@@ -52,7 +51,7 @@ pos-fits : (w : Width) (n : Option ℕ) (z : ℤ) → ((k : ℕ) → n ≡ Some 
 pos-fits w None z b h = let e : ◌≡◌ {A = ℕ} 0 1 = cc in absurd (omega arith)
 pos-fits w (Some k) z b h = let e : pos k ≡ z = cc in rw (sym e) (record { sfits = b k refl })
 
-integer-fits : (w : Width) (t : List ℕ) (z : ℤ) → integer_of (2 ^ hbits w) t ≡ Some z → SFits w z
+pub integer-fits : (w : Width) (t : List ℕ) (z : ℤ) → integer_of (2 ^ hbits w) t ≡ Some z → SFits w z
 unfolding integer_of
 integer-fits w [] z h = let e : ◌≡◌ {A = ℕ} 0 1 = cc in absurd (omega arith)
 integer-fits w (b ∷ bs) z h =
@@ -60,7 +59,3 @@ integer-fits w (b ∷ bs) z h =
     by-test (eqb b minus)
     (λ e. neg-fits w (number_of half bs) z (λ k q. number-le half bs k q) (rw e at h))
     (λ e. pos-fits w (number_of (half - 1) (b ∷ bs)) z (λ k q. omega (arith, number-le (half - 1) (b ∷ bs) k q, pow_pos (hbits w))) (rw e at h))
-
-pub is-narrow : (n : Option ℤ) (t : List ℕ) → n ≡ integer_of (2 ^ 31) t → Narrow n
-is-narrow None t e = tt
-is-narrow (Some z) t e = integer-fits w32 t z (sym e)

@@ -1,15 +1,14 @@
--- Laws of `digits_of`, the reading of digits one by one, and of `number_of`. Assumes nothing.
+-- Laws of `digits_of` and `number_of`. Assumes nothing.
 use Rattle.std.specs.Prelude.{None, Some}
 use mathlib.Core.Path.{◌≡◌, refl}
 use mathlib.Core.Bool.{Bool, true, false, cond, ◌&&◌}
 use mathlib.Core.List.{List, [], ◌∷◌}
 use Prim.Native.Nat.{ℕ, suc, ◌+◌, ◌-◌, ◌*◌, ◌<◌, ◌≤◌}
 use native.Mathlib.Omega.{arith}
-use native.Mathlib.Numerals.{add-one}
 use lib.Dec.{leb}
-use lib.ListN.{length, drop, get_or, drop_of_length-le}
+use lib.ListN.{length, drop, get_or}
 use lib.Seq.{drop-cons}
-use borrow.Author.Tests.{le-leb, lt-leb, leb-true, eq-eqb, ne_eqb}
+use borrow.Author.Tests.{lt-leb, leb-true, eq-eqb, ne_eqb}
 use Rattle.numerals.specs.Numerals.{is_digit, value_from, is_numeral, number_of}
 use Rattle.numerals.specs.Told.{digits_of}
 use Rattle.numerals.proofs.Splits.{by-test}
@@ -22,26 +21,12 @@ and-false : (b : Bool) → (b && false) ≡ false
 and-false true = refl
 and-false false = refl
 
--- ---- digits_of: a turn of the loop, and each way out of it
-
-module _ (m n : ℕ) (t : List ℕ) (i : ℕ) where
-  pub digits-end : length t ≤ i → n ≤ m → Some n ≡ digits_of m n (drop i t)
-  digits-end h l = rw (drop_of_length-le t h, le-leb n m l)
-
-  pub digits_low : i < length t → get_or t i 0 < 48 → None ≡ digits_of m n (drop i t)
-  digits_low h l = rw (drop-cons t i 0, lt-leb 48 (get_or t i 0) l)
-
-  pub digits-high : i < length t → 48 ≤ get_or t i 0 → 57 < get_or t i 0 → None ≡ digits_of m n (drop i t)
-  digits-high h l g = rw (drop-cons t i 0, le-leb 48 (get_or t i 0) l, lt-leb (get_or t i 0) 57 g)
-
-  pub digits-over : i < length t → 48 ≤ get_or t i 0 → get_or t i 0 ≤ 57 → m < n * 10 + (get_or t i 0 - 48) → None ≡ digits_of m n (drop i t)
-  digits-over h l g o =
-      let v = n * 10 + (get_or t i 0 - 48) in
-      rw (drop-cons t i 0, lt-leb (value_from v (drop (suc i) t)) m (omega (arith, value_grows v (drop (suc i) t))), and-false)
-
-  pub digits_more : i < length t → 48 ≤ get_or t i 0 → get_or t i 0 ≤ 57
-      → digits_of m (n * 10 + (get_or t i 0 - 48)) (drop (i + 1) t) ≡ digits_of m n (drop i t)
-  digits_more h l g = rw (drop-cons t i 0, le-leb 48 (get_or t i 0) l, le-leb (get_or t i 0) 57 g, add-one)
+-- digits that already spell more than may be read
+pub digits-over : (m n : ℕ) (t : List ℕ) (i : ℕ) → i < length t → 48 ≤ get_or t i 0 → get_or t i 0 ≤ 57 → m < n * 10 + (get_or t i 0 - 48)
+    → None ≡ digits_of m n (drop i t)
+digits-over m n t i h l g o =
+    let v = n * 10 + (get_or t i 0 - 48) in
+    rw (drop-cons t i 0, lt-leb (value_from v (drop (suc i) t)) m (omega (arith, value_grows v (drop (suc i) t))), and-false)
 
 -- ---- number_of: no digit, a zero in front, and all else
 

@@ -1,5 +1,5 @@
 -- A text split at every byte c is what stands before the first one, and the split of what stands after it. Assumes nothing.
-use Rattle.std.specs.Prelude.{None, Some}
+use Rattle.std.specs.Prelude.{None}
 use mathlib.Core.Path.{◌≡◌, refl}
 use mathlib.Core.Bool.{Bool, true, false}
 use mathlib.Core.List.{List, [], ◌∷◌}
@@ -9,9 +9,8 @@ use native.Mathlib.Numerals.{add-one}
 use native.Mathlib.Nat.{lt_of_not-le}
 use native.Mathlib.Decide.{dec_le}
 use lib.Dec.{eqb}
-use lib.ListN.{length, take, drop, get_or, drop_of_length-le, length-drop}
-use lib.Seq.{drop-cons, take_all}
-use borrow.Author.Tests.{eq-eqb, ne_eqb}
+use lib.ListN.{length, take, drop, length-drop}
+use lib.Seq.{take_all}
 use Rattle.numerals.specs.Numerals.{split, colon, three_numbers}
 use Rattle.numerals.specs.Told.{until}
 
@@ -26,18 +25,6 @@ by_order a b f g = elim (dec_le a b) [ yes h ↦ f h | no h ↦ g (lt_of_not-le 
 -- what `&t[k..]` is the list of
 pub part-rest : (k : ℕ) (t : List ℕ) → take (length t - k) (drop k t) ≡ drop k t
 part-rest k t = take_all (length t - k) (drop k t) (rw length-drop (omega arith))
-
--- ---- until: a turn of the loop, and each way out of it
-
-module _ (c : ℕ) (s : List ℕ) (i : ℕ) where
-  pub until-here : i < length s → get_or s i 0 ≡ c → until c (drop i s) ≡ 0
-  until-here h e = rw (drop-cons s i 0, eq-eqb (get_or s i 0) c e)
-
-  pub until-later : i < length s → (get_or s i 0 ≡ c → ⊥) → until c (drop i s) ≡ until c (drop (i + 1) s) + 1
-  until-later h e = rw (drop-cons s i 0, ne_eqb (get_or s i 0) c e, add-one (until c (drop (i + 1) s)), add-one i)
-
-  pub until_end : length s ≤ i → until c (drop i s) ≡ 0
-  until_end h = rw (drop_of_length-le s h)
 
 -- ---- split at the first c
 

@@ -1,14 +1,6 @@
 -- What the code's answers tell, in the terms of Numerals, and the two counts that its scans keep. Assumes nothing.
-use Rattle.std.specs.Prelude.{ℕ, suc, cond, ◌&&◌, List, [], ◌∷◌, eqb, leb, ℤ, None, Option, Some}
-use Rattle.std.specs.Int.{w32}
-use Rattle.std.proofs.Common.{SFits}
-use Rattle.tags.specs.declared.Tag.{Tag}
+use Rattle.std.specs.Prelude.{ℕ, suc, cond, ◌&&◌, List, [], ◌∷◌, eqb, leb, None, Option, Some}
 use Rattle.numerals.specs.Numerals.{all_digits, value_from}
-
--- an integer that was read fits 32 bits
-abbrev pub Narrow : Option ℤ → Type 0
-Narrow None = Unit {0}
-Narrow (Some z) = SFits w32 z
 
 -- how many bytes stand before the first c: all of them where there is none
 abbrev pub until : ℕ → List ℕ → ℕ

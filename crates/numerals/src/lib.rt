@@ -3,8 +3,8 @@
 #![tactic(auto)]
 
 ghost use Rattle.std.specs.Prelude.{◌≡◌, ◌∷◌, ◌^◌, ◌≤◌, ◌<◌, length};
-ghost use Rattle.numerals.specs.Numerals.{split, colon, number_of, negated, unsigned, integer_of, joined, three_numbers, tag_of, optional_tag_of};
-ghost use Rattle.numerals.specs.Told.{Narrow, until, digits_of};
+ghost use Rattle.numerals.specs.Numerals.{split, colon, number_of, negated, unsigned, integer_of, three_numbers, tag_of, optional_tag_of};
+ghost use Rattle.numerals.specs.Told.{until, digits_of};
 
 use tags::Tag;
 
@@ -12,44 +12,22 @@ use tags::Tag;
 pub fn find(s: &[u8], c: u8) -> usize
     ensures { (result ≡ until c s.now) × (result ≤ length s.now) }
 {
-    let mut i: usize = 0;
-    while i < s.len() {
-        if s[i] == c {
-            return i;
-        }
-        i += 1;
-    }
-    i
-}
-
-fn wide(b: u8) -> u64
-    ensures { result ≡ b }
-{
-    b as u64
+    s.iter().position(|b| *b == c).unwrap_or(s.len())
 }
 
 fn digits(t: &[u8], most: u64) -> Option<u64>
     ensures { result ≡ digits_of most 0 t.now }
 {
     let mut n: u64 = 0;
-    let mut i: usize = 0;
-    while i < t.len() {
-        let b = wide(t[i]);
-        if b < 48 {
+    for b in t {
+        let b = *b;
+        if b < b'0' || b'9' < b {
             return None;
         }
-        if 57 < b {
+        n = n.checked_mul(10)?.checked_add(u64::from(b - b'0'))?;
+        if most < n {
             return None;
         }
-        let d = b - 48;
-        if most < d {
-            return None;
-        }
-        if (most - d) / 10 < n {
-            return None;
-        }
-        n = n * 10 + d;
-        i += 1;
     }
     Some(n)
 }
@@ -58,31 +36,19 @@ fn digits(t: &[u8], most: u64) -> Option<u64>
 pub fn number(t: &[u8], most: u64) -> Option<u64>
     ensures { result ≡ number_of most t.now }
 {
-    if t.len() == 0 {
-        return None;
+    match t {
+        [] | [b'0', _, ..] => None,
+        _ => digits(t, most),
     }
-    if t.len() > 1 {
-        if t[0] == 48 {
-            return None;
-        }
-    }
-    digits(t, most)
 }
 
 fn negative(t: &[u8], half: u64) -> Option<i64>
     requires { half ≤ 2 ^ 63 }
     ensures { result ≡ negated (number_of half t.now) }
 {
-    let n = number(t, half);
-    match n {
-        None => None,
-        Some(k) => {
-            if k == 0 {
-                None
-            } else {
-                Some(!((k - 1) as i64))
-            }
-        }
+    match number(t, half)? {
+        0 => None,
+        k => Some(!((k - 1) as i64)),
     }
 }
 
@@ -90,64 +56,37 @@ fn positive(t: &[u8], most: u64) -> Option<i64>
     requires { most < 2 ^ 63 }
     ensures { result ≡ unsigned (number_of most t.now) }
 {
-    let n = number(t, most);
-    match n {
-        None => None,
-        Some(k) => Some(k as i64),
-    }
+    Some(number(t, most)? as i64)
 }
 
 fn integer(t: &[u8], half: u64) -> Option<i64>
     requires { (0 < half) × (half ≤ 2 ^ 63) }
     ensures { result ≡ integer_of half t.now }
 {
-    if t.len() == 0 {
-        return None;
+    match t {
+        [b'-', digits @ ..] => negative(digits, half),
+        _ => positive(t, half - 1),
     }
-    if t[0] == 45 {
-        return negative(&t[1..], half);
-    }
-    positive(t, half - 1)
-}
-
-fn joined_tag(s: Option<i64>, n: Option<i64>, m: Option<u64>) -> Option<Tag>
-    requires { Narrow n }
-    ensures { result ≡ joined s n m }
-{
-    let Some(seconds) = s else {
-        return None;
-    };
-    let Some(z) = n else {
-        return None;
-    };
-    let Some(microstep) = m else {
-        return None;
-    };
-    let nanoseconds = z as i32;
-    Some(Tag {
-        seconds,
-        nanoseconds,
-        microstep,
-    })
 }
 
 fn tag_of_parts(s: &[u8], n: &[u8], rest: &[u8]) -> Option<Tag>
     ensures { result ≡ three_numbers (s.now ∷ n.now ∷ split colon rest.now) }
 {
-    let c = find(rest, 58);
+    let c = find(rest, b':');
     if c < rest.len() {
         return None;
     }
-    let seconds = integer(s, 9223372036854775808);
-    let nanoseconds = integer(n, 2147483648);
-    let microstep = number(rest, 18446744073709551615);
-    joined_tag(seconds, nanoseconds, microstep)
+    Some(Tag {
+        seconds: integer(s, 1 << 63)?,
+        nanoseconds: integer(n, 1 << 31)? as i32,
+        microstep: number(rest, u64::MAX)?,
+    })
 }
 
 fn tag_after(s: &[u8], rest: &[u8]) -> Option<Tag>
     ensures { result ≡ three_numbers (s.now ∷ split colon rest.now) }
 {
-    let b = find(rest, 58);
+    let b = find(rest, b':');
     if rest.len() <= b {
         return None;
     }
@@ -158,7 +97,7 @@ fn tag_after(s: &[u8], rest: &[u8]) -> Option<Tag>
 pub fn tag(t: &[u8]) -> Option<Tag>
     ensures { result ≡ tag_of t.now }
 {
-    let a = find(t, 58);
+    let a = find(t, b':');
     if t.len() <= a {
         return None;
     }
@@ -172,9 +111,5 @@ pub fn optional_tag(t: &[u8]) -> Option<Option<Tag>>
     if octets::same_bytes(t, b"-") {
         return Some(None);
     }
-    let r = tag(t);
-    match r {
-        None => None,
-        Some(x) => Some(Some(x)),
-    }
+    Some(Some(tag(t)?))
 }

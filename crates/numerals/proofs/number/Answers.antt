@@ -3,15 +3,14 @@ use native.Mathlib.Omega.{arith}
 use Rattle.numerals.proofs.Numbers.{number-none, number-zero, number-one, number_more}
 use Rattle.numerals.proofs.number.Goals as goal
 
-pub returns-then-t-eq0 : goal.returns-then-t-eq0
-returns-then-t-eq0 c = let a = c.args in number-none a.most a.t.now c.if-t-eq0.true
-
-pub returns-then-t-eq48 : goal.returns-then-t-eq48
-returns-then-t-eq48 c = let a = c.args in
-    number-zero a.most a.t.now (omega arith) c.if-t-eq48.true
-
-pub returns : goal.returns
-returns c = let a = c.args in
+pub returns-in_default : goal.returns-in_default
+returns-in_default c = let a = c.args in
     let more = number_more a.most a.t.now in
     let one = number-one a.most a.t.now in
     grind (arith, more, one)
+
+pub returns-in-empty : goal.returns-in-empty
+returns-in-empty c = number-none c.args.most c.args.t.now (omega arith)
+
+pub returns-in-empty-2 : goal.returns-in-empty-2
+returns-in-empty-2 c = let zero = number-zero c.args.most c.args.t.now in grind (arith, zero)
