@@ -3,18 +3,17 @@
 use mathlib.Core.Path.{◌≡◌, refl}
 use mathlib.Core.Bool.{Bool, true, false, cond}
 use mathlib.Core.List.{List, [], ◌∷◌}
-use Prim.Native.Nat.{ℕ, zero, suc, ◌-◌, ◌*◌, ◌/◌, ◌≤◌, ◌<◌}
+use Prim.Native.Nat.{ℕ, zero, suc, ◌-◌, ◌*◌, ◌≤◌, ◌<◌}
 use native.Mathlib.Omega.{arith}
-use borrow.Author.Tests.{le-leb, lt-leb, eqb-false}
+use borrow.Author.Tests.{eqb-false}
 use lib.Dec.{eqb}
 use lib.ListN.{length}
-use Rattle.numerals.proofs.Splits.{by_order}
 use Rattle.rules.specs.Model.{Call}
 use Rattle.state.specs.declared.FederateCoordinationState.{FederateCoordinationState as Held}
 use Rattle.calls.specs.Called.{state_of}
 use Rattle.events.specs.Events.{event_of}
 use Rattle.script.specs.Lines.{Reading, Bad, Good, item}
-use Rattle.budget.specs.Run.{given, step_count, calls_by, calls_from, lesser, allowance}
+use Rattle.budget.specs.Run.{given, step_count, calls_by, calls_from, allowance}
 
 pub calls-few : (n : ℕ) (script : List ℕ) (at : ℕ) → length (calls_from n script at) ≤ n
 unfolding calls_from
@@ -32,20 +31,14 @@ step_count_lem (c ∷ cs) s = omega (arith, step_count_lem cs (state_of (given c
 
 -- ---- the allowance
 
-lesser-left : (a b : ℕ) → lesser a b ≤ a
-lesser-left a b = by_order a b (λ h. rw (le-leb a b h) (omega arith)) (λ h. rw (lt-leb a b h) (omega arith))
-
-pub lesser-right : (a b : ℕ) → lesser a b ≤ b
-lesser-right a b = by_order a b (λ h. rw (le-leb a b h) h) (λ h. rw (lt-leb a b h) (omega arith))
-
 module _ (budget left room n : ℕ) (e : n ≡ allowance budget left room) where
   pub allowed-left : n ≤ left
   unfolding allowance
-  allowed-left = omega (arith, e, lesser-right budget (lesser left (room / 5600)), lesser-left left (room / 5600))
+  allowed-left = omega (arith, e)
 
   pub allowed-fits : 5600 * n ≤ room
   unfolding allowance
-  allowed-fits = omega (arith, e, lesser-right budget (lesser left (room / 5600)), lesser-right left (room / 5600))
+  allowed-fits = omega (arith, e)
 
 -- ---- a budget falls with every run
 

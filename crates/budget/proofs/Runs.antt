@@ -2,20 +2,18 @@
 -- events, one line at a time. Assumes nothing.
 use mathlib.Core.Path.{◌≡◌, refl, sym, ap, ◌∙◌}
 use mathlib.Core.List.{List, [], ◌∷◌, ◌++◌, append_assoc}
-use Prim.Native.Nat.{ℕ, zero, suc, ◌+◌, ◌*◌, ◌/◌, ◌≤◌}
+use Prim.Native.Nat.{ℕ, zero, suc, ◌+◌, ◌*◌, ◌≤◌, min}
 use native.Mathlib.Omega.{arith}
-use borrow.Author.Tests.{le-leb, lt-leb}
 use lib.ListN.{length, take}
 use lib.Seq.{length-take-le}
-use Rattle.numerals.proofs.Splits.{by_order}
 use Rattle.rules.specs.Model.{Call}
 use Rattle.state.specs.declared.FederateCoordinationState.{FederateCoordinationState as Held}
 use Rattle.calls.specs.Called.{state_of}
 use Rattle.events.specs.Events.{event_of}
 use Rattle.script.specs.Lines.{Reading, Bad, Good, and_then, item, items}
 use Rattle.script.proofs.Good.{good-script-reads-again}
-use Rattle.budget.specs.Run.{given, event_lines, run_state, run_lines, calls_by, calls_from, place_by, place_from, lesser, allowance}
-use Rattle.budget.proofs.Counts.{lesser-right, step_count_lem}
+use Rattle.budget.specs.Run.{given, event_lines, run_state, run_lines, calls_by, calls_from, place_by, place_from, allowance}
+use Rattle.budget.proofs.Counts.{step_count_lem}
 use Rattle.budget.specs.Demands.{TakesTheLesser, TakesTheFirst, MoreExtendsLess}
 
 -- ---- what was read after something else: each part was
@@ -93,23 +91,14 @@ more-extends-less bytes at m n number s e =
 pub takes-the-first : TakesTheFirst
 takes-the-first bytes s last n e h = calls-first n (length s.events) bytes s.events_at s.events last (good-script-reads-again bytes s last e).reads h
 
-enough : (budget left room : ℕ) → 5600 * lesser budget left ≤ room → allowance budget left room ≡ lesser budget left
+enough : (budget left room : ℕ) → 5600 * min budget left ≤ room → allowance budget left room ≡ min budget left
 unfolding allowance
-enough budget left room h =
-    by_order left (room / 5600)
-    (λ k. rw (le-leb left (room / 5600) k))
-    (λ k. by_order budget left
-    (λ j. rw (
-      lt-leb left (room / 5600) k,
-      le-leb budget left j,
-      le-leb budget (room / 5600) (let u : 5600 * budget ≤ room = rw (le-leb budget left j) at h in omega arith),
-    ))
-    (λ j. absurd (let u : 5600 * left ≤ room = rw (lt-leb budget left j) at h in omega arith)))
+enough budget left room h = omega arith
 
 pub takes-the-lesser : TakesTheLesser
 takes-the-lesser bytes s last budget room held e h =
     let left = length s.events in
     let n = enough budget left room h in
-    let few = lesser-right budget left in
+    let few : min budget left ≤ left = omega arith in
     step_count_lem (calls_from (allowance budget left room) bytes s.events_at) held ∙ ap (λ k. length (calls_from k bytes s.events_at)) n
-    ∙ ap length (takes-the-first bytes s last (lesser budget left) e few) ∙ length-take-le (lesser budget left) s.events few
+    ∙ ap length (takes-the-first bytes s last (min budget left) e few) ∙ length-take-le (min budget left) s.events few

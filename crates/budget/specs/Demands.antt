@@ -1,5 +1,5 @@
 -- What holds of runs beyond the promises (document 01, "A run takes a number of events it may use .."), stated; proofs/ prove each. Assumes nothing.
-use Rattle.std.specs.Prelude.{ℕ, ◌+◌, ◌*◌, ◌≤◌, ◌≡◌, List, ◌++◌, map, T, length, take}
+use Rattle.std.specs.Prelude.{ℕ, ◌+◌, ◌*◌, ◌≤◌, ◌≡◌, min, List, ◌++◌, map, T, length, take}
 use Rattle.rules.specs.Model.{Call}
 use Rattle.rules.specs.Calls.{is_sound, run_calls}
 use Rattle.state.specs.declared.FederateCoordinationState.{FederateCoordinationState as Held}
@@ -7,13 +7,13 @@ use Rattle.state.specs.View.{view, represents}
 use Rattle.state.specs.Parts.{Sized}
 use Rattle.script.specs.Lines.{Good}
 use Rattle.script.specs.Script.{Script, script_of}
-use Rattle.budget.specs.Run.{given, run_state, run_lines, step_count, calls_from, place_from, lesser, allowance}
+use Rattle.budget.specs.Run.{given, run_state, run_lines, step_count, calls_from, place_from, allowance}
 
 -- in a script of good form a run from the first event takes the lesser of its budget and of the events, where the room suffices for them
 abbrev pub TakesTheLesser : Type 0
 TakesTheLesser =
-    (bytes : List ℕ) (s : Script) (last budget room : ℕ) (h : Held) → script_of bytes ≡ Good s last → 5600 * lesser budget (length s.events) ≤ room
-    → step_count (calls_from (allowance budget (length s.events) room) bytes s.events_at) h ≡ lesser budget (length s.events)
+    (bytes : List ℕ) (s : Script) (last budget room : ℕ) (h : Held) → script_of bytes ≡ Good s last → 5600 * min budget (length s.events) ≤ room
+    → step_count (calls_from (allowance budget (length s.events) room) bytes s.events_at) h ≡ min budget (length s.events)
 
 -- and the calls that it takes are the first of the script's
 abbrev pub TakesTheFirst : Type 0

@@ -1,6 +1,6 @@
 -- Document 01, "Script and its listing": "A run takes a number of events it may use and reports how many it took, the lesser of the two; refused events
 -- count." What a run of calls leaves of the state held, and what it lists. Assumes nothing.
-use Rattle.std.specs.Prelude.{ℕ, zero, suc, ◌+◌, ◌/◌, cond, List, [], ◌∷◌, ◌++◌, leb, length}
+use Rattle.std.specs.Prelude.{ℕ, zero, suc, ◌+◌, ◌/◌, min, List, [], ◌∷◌, ◌++◌, length}
 use Rattle.rules.specs.Model.{Call, Given}
 use Rattle.state.specs.declared.FederateCoordinationState.{FederateCoordinationState as Held}
 use Rattle.calls.specs.Called.{lent, refusal_of, state_of, actions_of, answer_of}
@@ -58,9 +58,6 @@ place_from (suc n) script at = place_by (item event_of script at) at (λ next. p
 
 -- ---- the number of events
 
-abbrev pub lesser : ℕ → ℕ → ℕ
-lesser a b = cond (leb a b) a b
-
 -- "the lesser of the two", and no more than surely fit: an event lists at most 35 lines of at most 160 bytes
 unfoldable pub allowance : ℕ → ℕ → ℕ → ℕ
-allowance budget left room = lesser budget (lesser left (room / 5600))
+allowance budget left room = min budget (min left (room / 5600))

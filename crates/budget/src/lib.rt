@@ -3,33 +3,21 @@
 #![tactic(auto)]
 
 ghost use Rattle.std.specs.Prelude.{◌≡◌, cond, ◌-◌, eqb};
-ghost use Rattle.budget.specs.Run.{lesser, allowance};
-
-fn lesser(a: usize, b: usize) -> usize
-    ensures { result ≡ lesser a b }
-{
-    if a <= b {
-        return a;
-    }
-    b
-}
+ghost use Rattle.budget.specs.Run.{allowance};
 
 // How many events a run may take: the lesser of its budget and of those left, and no more than the room surely holds.
 #[tactic(auto, unfolding(crate::specs::Run::allowance))]
 pub fn allowance(budget: usize, left: usize, room: usize) -> usize
     ensures { result ≡ allowance budget left room }
 {
-    lesser(budget, lesser(left, room / 5600))
+    budget.min(left.min(room / 5600))
 }
 
 // The difference, or 0 where there is none.
 pub fn difference(a: usize, b: usize) -> usize
     ensures { result ≡ a - b }
 {
-    if a < b {
-        return 0;
-    }
-    a - b
+    a.saturating_sub(b)
 }
 
 // What is left of a budget after so many events: nothing where none was taken, for then none is left to take.
