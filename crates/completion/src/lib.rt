@@ -14,7 +14,7 @@ ghost use Rattle.state.specs.Decides.{Aside, Decides, neat_parts};
 ghost use Rattle.completion.specs.Advance.{Advances, CompletesLeast};
 ghost use Rattle.completion.specs.Changes.{is_reached, widened_by, with_probe, reached_at, still_at, completing_at, asking_at, unblocked_at};
 
-use records::{FederateCompletion, Refusal};
+use records::{CoordinationPhase, FederateCompletion, Refusal};
 use state::{ABSENT, Completion, Decided, FederateCoordinationState, Next, Parts, Row};
 use table::Scanned;
 use tags::Tag;
@@ -94,14 +94,16 @@ pub fn complete(parts: Parts, tag: Tag, network_input: bool) -> Decided
     ensures neat { T (is_proper tag) → T (neat_parts parts) → T (neat_parts result.parts) }
     ensures aside { Aside parts result }
 {
-    let mut next = parts;
-    if parts.coordination.phase == 6 || !table::lags(parts.row.completed, tag) {
+    if parts.coordination.phase == u8::from(CoordinationPhase::Stopped)
+        || !table::lags(parts.row.completed, tag)
+    {
         return Decided {
             parts,
             forgets: false,
             next: Next::Says(None),
         };
     }
+    let mut next = parts;
     next.row.completed = tag;
     if network_input {
         next.completion = widened(parts.completion, tag);
@@ -239,7 +241,7 @@ pub fn advance_completion(
     requires { state.now.count ≤ 32 }
     ensures { (s : Held) → T (represents s) → Beside s state.now → s.coordination.phase ≡ phase → s.completion ≡ completion → Advances s result }
 {
-    if phase == 6 {
+    if phase == u8::from(CoordinationPhase::Stopped) {
         return Ok(still(completion));
     }
     match state::optional_of(table::front(state)) {

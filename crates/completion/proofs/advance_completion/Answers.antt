@@ -6,16 +6,16 @@ use Rattle.completion.proofs.Steps.{still-stopped, still-missing}
 use Rattle.completion.proofs.Answers.{front-is, is-there}
 use Rattle.completion.proofs.advance_completion.Goals as goal
 
-pub returns-then-phase-eq6 : goal.returns-then-phase-eq6
-returns-then-phase-eq6 c s whole v at own =
-    rw (c.still.ensures, ← own) (still-stopped s whole (stopped-is s whole ∙ rw at (eq-eqb c.args.phase 6 c.if-phase-eq6.true)))
+pub returns-then-phase-from : goal.returns-then-phase-from
+returns-then-phase-from c s whole v at own =
+    rw (c.still.ensures, ← own) (still-stopped s whole (stopped-is s whole ∙ rw at (eq-eqb c.args.phase 6 (c.if-phase-from.true ∙ c.from.ensures))))
 
 pub returns-in-None : goal.returns-in-None
 returns-in-None c s whole v at own =
     rw (c.still-in-None.ensures, ← own)
-    (still-missing s whole (stopped-is s whole ∙ rw at (ne_eqb c.args.phase 6 c.if-phase-eq6.false)) (front-is v c.front.result c.front.ensures ∙ sym c.in-None.ensures))
+    (still-missing s whole (stopped-is s whole ∙ rw at (ne_eqb c.args.phase 6 (λ e. c.if-phase-from.false (e ∙ sym c.from.ensures)))) (front-is v c.front.result c.front.ensures ∙ sym c.in-None.ensures))
 
 pub returns-in-Some : goal.returns-in-Some
 returns-in-Some c s whole v at own =
     c.advance_to.ensures s whole v own (is-there c.front.result c.in-Some.ensures)
-    (stopped-is s whole ∙ rw at (ne_eqb c.args.phase 6 c.if-phase-eq6.false)) (front-is v c.front.result c.front.ensures ∙ sym c.in-Some.ensures)
+    (stopped-is s whole ∙ rw at (ne_eqb c.args.phase 6 (λ e. c.if-phase-from.false (e ∙ sym c.from.ensures)))) (front-is v c.front.result c.front.ensures ∙ sym c.in-Some.ensures)
