@@ -15,7 +15,7 @@ ghost use Rattle.gate.specs.Replies.{Replies, answering};
 ghost use Rattle.gate.specs.Parts.{sound_then_proper, all_found, unlisted, permits, started_at};
 
 use calls::{Called, Reply};
-use records::{EnclaveIndex, Refusal};
+use records::{CoordinationPhase, EnclaveIndex, Refusal};
 use state::{ABSENT, COMPLETED, FederateCoordinationState, Gate, STARTED};
 use tags::Tag;
 
@@ -52,7 +52,7 @@ pub fn set_input_horizon(mut state: FederateCoordinationState, horizon: Option<T
 fn may_begin(state: &FederateCoordinationState, tag: Tag) -> bool
     ensures { result ≡ permits state.now tag }
 {
-    state.coordination.phase != 6
+    state.coordination.phase != u8::from(CoordinationPhase::Stopped)
         && tags::at_or_below(tag, state.gate.input_horizon)
         && is_within_cell(tag, state.gate.granted)
 }
