@@ -1,7 +1,8 @@
 -- Document 01, "Gate", on the state held: the refusals of the calls that give one tag, the indices that are participants, the participants that stay
 -- published, and the tests of `begin_tag`. Assumes nothing.
-use Rattle.std.specs.Prelude.{Bool, false, not, cond, ◌&&◌, List, ◌++◌, ℕ, ◌+◌, eqb, ltb, get_or, set, drop, None, Option, Some}
+use Rattle.std.specs.Prelude.{Bool, false, not, cond, ◌&&◌, List, ◌++◌, ℕ, ◌+◌, eqb, get_or, set, drop, None, Option, Some}
 use Rattle.std.specs.List.{list_all}
+use Rattle.std.specs.Option.{is_some}
 use Rattle.tags.specs.Tags.{◌≤ₜ◌, within}
 use Rattle.records.specs.declared.Refusal.{Refusal}
 use Rattle.records.specs.declared.Refusal.TheVariants.{UnsoundState, ImproperTag}
@@ -9,7 +10,8 @@ use Rattle.rules.specs.Model.{Tag}
 use Rattle.rules.specs.Walk.{among}
 use Rattle.rules.specs.Calls.{is_sound}
 use Rattle.state.specs.declared.FederateCoordinationState.{FederateCoordinationState as Held}
-use Rattle.state.specs.Walk.{tab, place_from}
+use Rattle.state.specs.Walk.{tab}
+use Rattle.state.specs.Parts.{place_in}
 use Rattle.state.specs.Cells.{optional_of}
 use Rattle.state.specs.View.{view, represents}
 
@@ -19,7 +21,7 @@ sound_then_proper s proper = cond (represents s && is_sound (view s)) (cond prop
 
 -- each of these indices is a participant's
 abbrev pub all_found : Held → List ℕ → Bool
-all_found s es = list_all (λ e. ltb (place_from (λ j. eqb (get_or s.enclaves j 0) e) 0 s.count) s.count) es
+all_found s es = list_all (λ e. is_some (place_in s e)) es
 
 -- "unpublishes the named": whether the participant at place j stays published
 abbrev pub stays_at : Held → List ℕ → ℕ → Bool

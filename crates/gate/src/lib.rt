@@ -77,8 +77,10 @@ pub fn begin_tag(mut state: FederateCoordinationState, enclave: EnclaveIndex, ta
     if state::is_absent(state.gate.input_horizon) {
         return calls::with_reply(state, None, Some(true), 0);
     }
-    let place = table::find(&state, enclave);
-    if state.count <= place || !may_begin(&state, tag) {
+    let Some(place) = table::find(&state, enclave) else {
+        return calls::with_reply(state, None, Some(false), 0);
+    };
+    if !may_begin(&state, tag) {
         return calls::with_reply(state, None, Some(false), 0);
     }
     put_started(&mut state, place, tag);
@@ -89,9 +91,10 @@ fn is_late(state: &FederateCoordinationState, enclave: EnclaveIndex, tag: Tag) -
     requires { state.now.count ≤ 32 }
     ensures { T (ascending (rows_of state.now)) → result ≡ is_late enclave tag (view state.now) }
 {
-    let place = table::find(state, enclave);
-    state.count <= place
-        || is_within_cell(tag, state.tag_at(STARTED + place))
+    let Some(place) = table::find(state, enclave) else {
+        return true;
+    };
+    is_within_cell(tag, state.tag_at(STARTED + place))
         || is_within_cell(tag, state.tag_at(COMPLETED + place))
 }
 
@@ -99,8 +102,10 @@ fn is_completed(state: &FederateCoordinationState, enclave: EnclaveIndex, tag: T
     requires { state.now.count ≤ 32 }
     ensures { T (ascending (rows_of state.now)) → result ≡ is_completed enclave tag (view state.now) }
 {
-    let place = table::find(state, enclave);
-    place < state.count && is_within_cell(tag, state.tag_at(COMPLETED + place))
+    let Some(place) = table::find(state, enclave) else {
+        return false;
+    };
+    is_within_cell(tag, state.tag_at(COMPLETED + place))
 }
 
 fn answering(refusal: Option<Refusal>, yes: bool) -> Reply
@@ -139,7 +144,7 @@ fn are_known(state: &FederateCoordinationState, affected: &[u32]) -> bool
 {
     affected
         .iter()
-        .all(|enclave| table::find(state, *enclave) < state.count)
+        .all(|enclave| table::find(state, *enclave).is_some())
 }
 
 // Which participants stay published; every other flag is as it was.

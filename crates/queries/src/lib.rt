@@ -89,7 +89,11 @@ pub fn phase(state: FederateCoordinationState) -> Answer<CoordinationPhase>
     ensures { Answers (ask_held Active (λ s. s.phase) state) result.refusal result.answer }
 {
     let phase = phase_of(state.coordination.phase);
-    answer_if(soundness::is_sound(&state), CoordinationPhase::Active, phase)
+    answer_if(
+        soundness::is_sound(&state),
+        CoordinationPhase::Active,
+        phase,
+    )
 }
 
 // Whether the phase is Stopped; refused: no.
@@ -161,9 +165,8 @@ pub fn candidate(state: FederateCoordinationState, enclave: u32) -> Answer<Optio
     if !soundness::is_sound(&state) {
         return answer_if(false, None, None);
     }
-    let place = table::find(&state, enclave);
-    if state.count <= place {
+    let Some(place) = table::find(&state, enclave) else {
         return answer_if(true, None, None);
-    }
+    };
     answer_if(true, None, Some(state::optional_of(state.tag_at(place))))
 }

@@ -28,7 +28,7 @@ use Rattle.state.specs.declared.Parts.{Parts}
 use Rattle.state.specs.Walk.{tab, all_of, any_of, place_from, least_from, greatest_from, each_from}
 use Rattle.state.specs.Cells.{absent, is_absent, optional_of, cell_of, is_neat, is_cell, tag_in, number_if, observation_of}
 use Rattle.state.specs.View.{tag_at, row_at, rows_of}
-use Rattle.state.specs.Parts.{Sized, Apart, Seated, row_of, row_put, rebuilt, cleared, with_gate}
+use Rattle.state.specs.Parts.{Sized, Apart, Seated, placed, place_in, row_of, row_put, rebuilt, cleared, with_gate}
 
 -- ---- the rules' walks over listed places
 
@@ -273,6 +273,38 @@ known s e i d = knows-found e (rows_of s) ∙ ap is_found (found s e i d)
 
 pub unknown-knows : (s : Held) (e i : ℕ) → i ≡ place_from (λ j. eqb (get_or s.enclaves j 0) e) 0 s.count → s.count ≤ i → knows e (rows_of s) ≡ false
 unknown-knows s e i q l = knows-found e (rows_of s) ∙ ap is_found (unknown s e i q l)
+
+-- ---- the place found, or none
+
+module _ (s : Held) (e : ℕ) where
+  pub place-some : {i : ℕ} → Some i ≡ place_in s e → (i ≡ place_from (λ j. eqb (get_or s.enclaves j 0) e) 0 s.count) × (i < s.count)
+  place-some {i} h = go (place_from (λ j. eqb (get_or s.enclaves j 0) e) 0 s.count) h
+    where
+      within : (p : ℕ) (b : Bool) → ltb p s.count ≡ b → Some i ≡ cond b (Some p) None → (i ≡ p) × (i < s.count)
+      within p true l k = let q : i ≡ p = cc in let m = ltb-true p s.count l in (q, omega arith)
+      within p false l k = cc
+
+      go : (p : ℕ) → Some i ≡ placed p s.count → (i ≡ p) × (i < s.count)
+      go p k = within p (ltb p s.count) refl k
+
+  place-none : None ≡ place_in s e → s.count ≤ place_from (λ j. eqb (get_or s.enclaves j 0) e) 0 s.count
+  place-none h = go (place_from (λ j. eqb (get_or s.enclaves j 0) e) 0 s.count) h
+    where
+      beyond : (p : ℕ) (b : Bool) → ltb p s.count ≡ b → None ≡ cond b (Some p) None → s.count ≤ p
+      beyond p true l k = cc
+      beyond p false l k = ltb-false p s.count l
+
+      go : (p : ℕ) → None ≡ placed p s.count → s.count ≤ p
+      go p k = beyond p (ltb p s.count) refl k
+
+  pub seated-in : {i : ℕ} → T (ascending (rows_of s)) → Some i ≡ place_in s e → Seated s e i
+  seated-in {i} a h = let p = place-some h in seated s e i a p.0 p.1
+
+  pub found-nowhere : None ≡ place_in s e → find e (rows_of s) ≡ None
+  found-nowhere h = unknown s e (place_from (λ j. eqb (get_or s.enclaves j 0) e) 0 s.count) refl (place-none h)
+
+  pub nobody : None ≡ place_in s e → knows e (rows_of s) ≡ false
+  nobody h = unknown-knows s e (place_from (λ j. eqb (get_or s.enclaves j 0) e) 0 s.count) refl (place-none h)
 
 -- ---- a tag's cell
 

@@ -1,5 +1,5 @@
 -- The parts of a state that a scheduler message's own rule can change, read out of it and put back. Assumes nothing.
-use Rattle.std.specs.Prelude.{◌≡◌, true, false, List, ◌++◌, ℕ, ◌+◌, ◌<◌, eqb, length, get_or, set, replicate, drop}
+use Rattle.std.specs.Prelude.{◌≡◌, true, false, cond, List, ◌++◌, ℕ, ◌+◌, ◌<◌, eqb, ltb, length, get_or, set, replicate, drop, None, Option, Some}
 use Rattle.rules.specs.Model.{Participant}
 use Rattle.state.specs.declared.FederateCoordinationState.{FederateCoordinationState as Held}
 use Rattle.state.specs.declared.Coordination.{Coordination}
@@ -7,6 +7,7 @@ use Rattle.state.specs.declared.Completion.{Completion}
 use Rattle.state.specs.declared.Gate.{Gate}
 use Rattle.state.specs.declared.Row.{Row}
 use Rattle.state.specs.declared.Parts.{Parts}
+use Rattle.state.specs.Walk.{place_from}
 use Rattle.state.specs.Cells.{absent, optional_of, number_if}
 use Rattle.state.specs.View.{tag_at}
 
@@ -24,6 +25,13 @@ pub record Sized (s : Held) : Type 0 where
 -- no two of the first n places hold the same number
 abbrev pub Apart : List ℕ → ℕ → Type 0
 Apart es n = (i j : ℕ) → i < j → j < n → get_or es i 0 ≡ get_or es j 0 → ⊥
+
+-- the place where enclave e stands among the participants, if it is one of them
+abbrev pub placed : ℕ → ℕ → Option ℕ
+placed i n = cond (ltb i n) (Some i) None
+
+abbrev pub place_in : Held → ℕ → Option ℕ
+place_in s e = placed (place_from (λ j. eqb (get_or s.enclaves j 0) e) 0 s.count) s.count
 
 -- enclave e stands at place i, and nowhere else
 pub record Seated (s : Held) (e i : ℕ) : Type 0 where

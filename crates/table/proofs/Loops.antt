@@ -12,6 +12,7 @@ use borrow.Author.Tests.{not-true, not-false, eq-eqb, ne_eqb, lt-ltb, le-ltb, lt
 use lib.Dec.{T, eqb, ltb}
 use lib.ListN.{length, get_or, set}
 use lib.Seq.{set-get_or}
+use Rattle.std.specs.Option.{unwrap_or}
 use Rattle.tags.specs.Tags.{◌≤ₜ◌, ◌<ₜ◌, is_present, is_below, lesser_of, greater_of, lesser_present, greater_present, lesser_of_both}
 use Rattle.tags.proofs.Order.{≤ₜ-trans, ≤ₜ-total, greater-le-left, lesser-left, lesser-right, greater-comm, greater-assoc}
 use Rattle.rules.specs.Model.{Tag}
@@ -19,7 +20,7 @@ use Rattle.state.specs.declared.FederateCoordinationState.{FederateCoordinationS
 use Rattle.state.specs.Cells.{absent, is_absent, optional_of, cell_of}
 use Rattle.state.specs.View.{tag_at}
 use Rattle.state.specs.Walk.{all_of, any_of, place_from, least_from, greatest_from}
-use Rattle.state.specs.Parts.{Apart, cleared}
+use Rattle.state.specs.Parts.{Apart, cleared, placed}
 use Rattle.table.specs.declared.Scanned.{Scanned}
 use Rattle.table.specs.declared.Scanned.TheVariants.{Blocked, Waiting, Answered}
 
@@ -78,6 +79,23 @@ module _ (f : ℕ → Bool) (n i z : ℕ) where
   pub place-done : z ≡ place_from f i (n - i) → n ≤ i → i ≡ z
   unfolding place_from
   place-done p h = sym (p ∙ done (place_from f) n i h)
+
+place-below : (f : ℕ → Bool) (k n : ℕ) → place_from f k n ≤ k + n
+unfolding place_from
+place-below f k zero = omega arith
+place-below f k (suc n) = go (f k) (place-below f (k + 1) n)
+  where
+    go : (b : Bool) → place_from f (k + 1) n ≤ k + 1 + n → cond b k (place_from f (k + 1) n) ≤ k + suc n
+    go true h = omega arith
+    go false h = omega arith
+
+-- the place, or the count where there is none
+pub place-or-count : (f : ℕ → Bool) (n : ℕ) → unwrap_or (placed (place_from f 0 n) n) n ≡ place_from f 0 n
+place-or-count f n = go (ltb (place_from f 0 n) n) refl
+  where
+    go : (b : Bool) → ltb (place_from f 0 n) n ≡ b → unwrap_or (cond b (Some (place_from f 0 n)) None) n ≡ place_from f 0 n
+    go true e = refl
+    go false e = let a = ltb-false (place_from f 0 n) n e in let b = place-below f 0 n in omega arith
 
 -- the place in hand is the first, since no other holds the same number
 pub place-only : (es : List ℕ) (n e g : ℕ) → Apart es n → g < n → get_or es g 0 ≡ e → g ≡ place_from (λ j. eqb (get_or es j 0) e) 0 n

@@ -8,27 +8,28 @@ ghost use Rattle.rules.specs.Walk.{is_number};
 ghost use Rattle.state.specs.Cells.{is_absent, optional_of, cell_of, number_if};
 ghost use Rattle.state.specs.Walk.{all_of, any_of, place_from, least_from, greatest_from};
 ghost use Rattle.state.specs.View.{tag_at};
-ghost use Rattle.state.specs.Parts.{Apart, cleared, row_of, with_row};
+ghost use Rattle.state.specs.Parts.{Apart, cleared, place_in, row_of, with_row};
 ghost use Rattle.table.specs.declared.Scanned.TheVariants.{Blocked, Waiting, Answered};
 ghost use Rattle.table.specs.Scan.{blocks_at, answered_at};
 
 use state::{ABSENT, COMPLETED, FederateCoordinationState, Row};
 use tags::Tag;
 
-// The place of an enclave, or the count where it is none of the first `count`.
-pub fn find(state: &FederateCoordinationState, enclave: u32) -> usize
+// The place of an enclave, if it is a participant.
+pub fn find(state: &FederateCoordinationState, enclave: u32) -> Option<usize>
     requires { state.now.count ≤ 32 }
-    ensures { result ≡ place_from (λ j. eqb (get_or state.now.enclaves j 0) enclave) 0 state.now.count }
+    ensures { result ≡ place_in state.now enclave }
 {
     for i in 0..state.count {
         if state.enclaves[i] == enclave {
-            return i;
+            return Some(i);
         }
     }
-    state.count
+    None
 }
 
-// `find` where no two of the places hold the same number: the enclave's own number is tried first, as where indices are dense it is the place.
+// `find` where no two of the places hold the same number, or the count: the enclave's own number is tried first, as where indices are dense it is the place.
+// Kept: the count in place of None. A scheduler call compares what it gives with the count once, among its other refusals.
 pub fn seat_of(state: &FederateCoordinationState, enclave: u32) -> usize
     requires { (state.now.count ≤ 32) × Apart state.now.enclaves state.now.count }
     ensures { result ≡ place_from (λ j. eqb (get_or state.now.enclaves j 0) enclave) 0 state.now.count }
@@ -39,7 +40,7 @@ pub fn seat_of(state: &FederateCoordinationState, enclave: u32) -> usize
             return guess;
         }
     }
-    find(state, enclave)
+    find(state, enclave).unwrap_or(state.count)
 }
 
 // Whether all of the participants are published.

@@ -13,14 +13,14 @@ use Rattle.rules.specs.Gate.{may_begin}
 use Rattle.rules.specs.Calls.{says}
 use Rattle.state.specs.View.{view}
 use Rattle.state.specs.Parts.{Sized}
-use Rattle.state.proofs.Rows.{seated, unknown-knows}
+use Rattle.state.proofs.Rows.{nobody, place-some, seated-in}
 use Rattle.calls.specs.Called.{lent, replied}
 use Rattle.calls.proofs.Standing.{Standing, standing_by, promised-taken, promised-still}
 use Rattle.gate.specs.Parts.{started_at}
 use Rattle.gate.proofs.Ends.{asks-begin, asks-0, asks-passed, ends-asked, refused-no}
 use Rattle.gate.proofs.Beginning.{may_free, step-free, may-unknown, may-known, step-begun, step-denied, started-view, started-neat, started-beyond}
 use Rattle.gate.proofs.begin_tag.Goals as goal
-use Rattle.gate.proofs.begin_tag.Goals.{Else-is_some, then-state-place-via-then-state-place, then-state-place-via-else-state-place+then-not-may_begin}
+use Rattle.gate.proofs.begin_tag.Goals.{Else-is_some}
 
 pub returns-then-is_some : goal.returns-then-is_some
 returns-then-is_some c =
@@ -47,29 +47,35 @@ returns-then-is_absent c =
     promised-still (lent 0 (begin a.enclave a.tag)) s w.0 (asks-0 _ (Some a.tag) (asks-begin a.enclave a.tag) s w.0.passing w.1) (Some true)
     (ap says (sym (may_free s a.enclave a.tag h))) (step-free s a.enclave a.tag h) c.with_reply-then-is_absent.ensures
 
-pub find-place-requires : goal.find-place-requires
-find-place-requires c = (passed (goal.at.find-place-requires c).Else-is_some).0.few
+pub find-requires : goal.find-requires
+find-requires c = (passed (goal.at.find-requires c).Else-is_some).0.few
 
-pub returns-then-state-place : goal.returns-then-state-place
-returns-then-state-place c =
+pub returns-in_default : goal.returns-in_default
+returns-in_default c =
     let a = c.args in
     let s = a.state in
-    let w = passed (goal.at.returns-then-state-place c).Else-is_some in
+    let w = passed (goal.at.returns-in_default c).Else-is_some in
     let h = sym c.is_absent.ensures ∙ c.if-is_absent.false in
-    let i = c.find-place.result in
-    let y : may_begin (view s).input_horizon a.enclave a.tag (view s) ≡ false =
-    elim c.then-state-place.branch [
-      | then-state-place-via-then-state-place v ↦ may-unknown s a.enclave a.tag h (unknown-knows s a.enclave i c.find-place.ensures v.if-state-place.true)
-      | then-state-place-via-else-state-place+then-not-may_begin v ↦
-          may-known s a.enclave a.tag h i w.0.good (seated s a.enclave i w.0.ascends c.find-place.ensures v.if-state-place.false)
-          ∙ sym v.may_begin.ensures ∙ v.if-not-may_begin.true
-    ]
-    in
+    let y = may-unknown s a.enclave a.tag h (nobody s a.enclave c.in_default.ensures) in
     promised-still (lent 0 (begin a.enclave a.tag)) s w.0 (asks-0 _ (Some a.tag) (asks-begin a.enclave a.tag) s w.0.passing w.1) (Some false)
-    (ap says (sym y)) (step-denied s a.enclave a.tag y) c.with_reply-then-state-place.ensures
+    (ap says (sym y)) (step-denied s a.enclave a.tag y) c.with_reply-in_default.ensures
+
+pub returns-then-not-may_begin : goal.returns-then-not-may_begin
+returns-then-not-may_begin c =
+    let a = c.args in
+    let s = a.state in
+    let w = passed (goal.at.returns-then-not-may_begin c).Else-is_some in
+    let h = sym c.is_absent.ensures ∙ c.if-is_absent.false in
+    let d = seated-in s a.enclave w.0.ascends c.in-Some.ensures in
+    let y = may-known s a.enclave a.tag h c.in-Some.place w.0.good d ∙ sym c.may_begin.ensures ∙ c.if-not-may_begin.true in
+    promised-still (lent 0 (begin a.enclave a.tag)) s w.0 (asks-0 _ (Some a.tag) (asks-begin a.enclave a.tag) s w.0.passing w.1) (Some false)
+    (ap says (sym y)) (step-denied s a.enclave a.tag y) c.with_reply-then-not-may_begin.ensures
 
 pub put_started-requires : goal.put_started-requires
-put_started-requires c = let n = (passed (goal.at.put_started-requires c).Else-is_some).0.few in omega arith
+put_started-requires c =
+    let n = (passed (goal.at.put_started-requires c).Else-is_some).0.few in
+    let l = (place-some c.args.state c.args.enclave c.in-Some.ensures).1 in
+    omega arith
 
 pub returns : goal.returns
 returns c =
@@ -78,8 +84,8 @@ returns c =
     let w = passed (goal.at.returns c).Else-is_some in
     let st = w.0 in
     let h = sym c.is_absent.ensures ∙ c.if-is_absent.false in
-    let i = c.find-place.result in
-    let d = seated s a.enclave i st.ascends c.find-place.ensures c.if-state-place.false in
+    let i = c.in-Some.place in
+    let d = seated-in s a.enclave st.ascends c.in-Some.ensures in
     let y = may-known s a.enclave a.tag h i st.good d ∙ sym c.may_begin.ensures ∙ c.if-not-may_begin.false in
     promised-taken (lent 0 (begin a.enclave a.tag)) s st (asks-0 _ (Some a.tag) (asks-begin a.enclave a.tag) s st.passing w.1) (Some true) (ap says (sym y))
     (started_at s i a.tag) [] (started-beyond s a.enclave i a.tag st.good st.few d w.1) (started-neat s a.enclave i a.tag st.good st.few d w.1)
