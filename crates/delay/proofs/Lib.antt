@@ -1,4 +1,2 @@
-pub mod Whole
 pub mod Pair
-pub mod Exact
 pub mod Examples
