@@ -1,3 +1,2 @@
 pub mod Halting
-pub mod Numbers
 pub mod Concluding

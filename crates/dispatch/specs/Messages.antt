@@ -1,22 +1,18 @@
--- Message dispatch (document 01, "message dispatch, choosing by kind number"): the call that a scheduler message is, its flat form with the kind number,
--- and what the two halves of a message's own rule promise. Assumes nothing.
-use Rattle.std.specs.Prelude.{◌≡◌, Bool, false, ◌||◌, List, [], ◌∷◌, ℕ, T, eqb, ℤ, None, Option, Some}
-use Rattle.records.specs.Numbers.{message_number}
+-- Message dispatch (document 01, "message dispatch, choosing by kind number"): the call that a scheduler message is, what it names, and what the two halves
+-- of a message's own rule promise. Assumes nothing.
+use Rattle.std.specs.Prelude.{◌≡◌, Bool, true, false, List, [], ◌∷◌, ℕ, T, None, Option, Some}
 use Rattle.records.specs.declared.SchedulerMessage.{SchedulerMessage}
 use Rattle.records.specs.declared.SchedulerMessage.TheVariants as message
-use Rattle.rules.specs.Model.{Tag, CoordinationAction, Call, active, publish, complete, observed, stopped, failed}
+use Rattle.rules.specs.Model.{Tag, CoordinationAction, Complete, Call, active, publish, complete, observed, stopped, failed}
 use Rattle.state.specs.declared.FederateCoordinationState.{FederateCoordinationState as Held}
 use Rattle.state.specs.declared.Coordination.{Coordination}
-use Rattle.state.specs.declared.Completion.{Completion}
 use Rattle.state.specs.declared.Next.{Next}
 use Rattle.state.specs.View.{view, neat_coordination, neat_completion}
 use Rattle.state.specs.Parts.{with_coordination, with_completion, with_gate}
 use Rattle.state.specs.Decides.{conclusion, said_of}
-use Rattle.completion.specs.Advance.{complete_action}
 use Rattle.publication.specs.Announce.{announcement, dropped_if}
-use Rattle.dispatch.specs.declared.Flat.{Flat}
 use Rattle.dispatch.specs.declared.Said.{Said}
-use Rattle.dispatch.specs.declared.Said.TheVariants.{Kind, Announcement, Completion as Completing}
+use Rattle.dispatch.specs.declared.Said.TheVariants.{Word, Announcement, Completion as Completing}
 use Rattle.dispatch.specs.declared.Concluded.{Concluded}
 
 abbrev pub call_of : SchedulerMessage → Call
@@ -49,49 +45,29 @@ tag_of (message.CompletionObserved e g) = None
 tag_of (message.ParticipantStopped e) = None
 tag_of (message.Failed e) = None
 
-abbrev pub network_of : SchedulerMessage → Bool
-network_of (message.Active e) = false
-network_of (message.Publish e c) = false
-network_of (message.CompleteTag e t n) = n
-network_of (message.CompletionObserved e g) = false
-network_of (message.ParticipantStopped e) = false
-network_of (message.Failed e) = false
-
-abbrev pub generation_of : SchedulerMessage → ℕ
-generation_of (message.Active e) = 0
-generation_of (message.Publish e c) = 0
-generation_of (message.CompleteTag e t n) = 0
-generation_of (message.CompletionObserved e g) = g
-generation_of (message.ParticipantStopped e) = 0
-generation_of (message.Failed e) = 0
-
-abbrev pub flat_of : SchedulerMessage → Flat
-flat_of m = record { kind = message_number m; enclave = enclave_of m; tag = tag_of m; network_input = network_of m; generation = generation_of m }
-
--- the kind numbers of CompleteTag and CompletionObserved, which leave publication, stop and failure alone
-abbrev pub about_completion : ℕ → Bool
-about_completion k = eqb k 3 || eqb k 4
-
--- the state has these columns and small parts
-pub record Has (s : Held) (ps : List Bool) (ss ns : List ℤ) (ms : List ℕ) (n : ℕ) (c : Coordination) (k : Completion) (h : Tag) (l : ℕ) : Type 0 where
-  pub published : s.published ≡ ps
-  pub seconds : s.seconds ≡ ss
-  pub nanoseconds : s.nanoseconds ≡ ns
-  pub microsteps : s.microsteps ≡ ms
-  pub count : s.count ≡ n
-  pub coordination : s.coordination ≡ c
-  pub completion : s.completion ≡ k
-  pub horizon : s.grant_horizon ≡ h
-  pub lifecycle : s.lifecycle ≡ l
+-- CompleteTag and CompletionObserved, which leave publication, stop and failure alone
+abbrev pub about_completion : SchedulerMessage → Bool
+about_completion (message.Active e) = false
+about_completion (message.Publish e c) = false
+about_completion (message.CompleteTag e t n) = true
+about_completion (message.CompletionObserved e g) = true
+about_completion (message.ParticipantStopped e) = false
+about_completion (message.Failed e) = false
 
 -- the actions of a message's own rule
 abbrev pub actions_of : ℕ → Said → Coordination → List CoordinationAction
-actions_of e (Kind k) c = said_of k e c.revision
+actions_of e (Word n) c = said_of n e c.revision
 actions_of e (Announcement resume) c = announcement e resume c
-actions_of e (Completing f mark) c = complete_action f mark ∷ []
+actions_of e (Completing k) c = Complete k ∷ []
+
+-- "drop the stored acquisition" comes with Publish
+abbrev pub drops : Said → Bool
+drops (Word n) = false
+drops (Announcement resume) = true
+drops (Completing k) = false
 
 -- c concludes the own rule of enclave e's message in s
 pub record Concludes (s : Held) (e : ℕ) (n : Next) (c : Concluded) : Type 0 where
-  pub step : conclusion e n (view s) ≡ record { state = view (with_gate (dropped_if c.drops s.gate) (with_completion c.completion (with_coordination c.coordination s))); actions = actions_of e c.said c.coordination }
+  pub step : conclusion e n (view s) ≡ record { state = view (with_gate (dropped_if (drops c.said) s.gate) (with_completion c.completion (with_coordination c.coordination s))); actions = actions_of e c.said c.coordination }
   pub coordination : T (neat_coordination c.coordination)
   pub completion : T (neat_completion c.completion)

@@ -1,24 +1,22 @@
 -- `dispatch::conclude` meets its contract: each way to go on by its law in Concluding, from what publication and completion promise. Assumes nothing.
-use Rattle.dispatch.proofs.Concluding.{concludes-announces, concludes-completes, concludes-says}
+use Rattle.dispatch.proofs.Concluding.{concludes-announced, concludes-completed, concludes-says, concludes-unannounced, concludes-uncompleted}
 use Rattle.dispatch.proofs.conclude.Goals as goal
 
 pub returns-in-Says-clause-concludes : goal.returns-in-Says-clause-concludes
-returns-in-Says-clause-concludes c =
-    let a = c.args in
-    rw c.in-Says.is
-    (λ s e whole has. concludes-says a.published.now a.seconds.now a.nanoseconds.now a.microsteps.now a.count a.coordination a.completion
-    a.horizon a.lifecycle s e whole has _)
+returns-in-Says-clause-concludes c = rw c.in-Says.is (λ s e whole beside p q. concludes-says _ _ s e whole p q _)
 
-pub returns-in-Announces-clause-concludes : goal.returns-in-Announces-clause-concludes
-returns-in-Announces-clause-concludes c =
-    let a = c.args in
-    rw (c.in-Announces.is, c.with_publication.ensures)
-    (λ s e whole has. concludes-announces a.published.now a.seconds.now a.nanoseconds.now a.microsteps.now a.count a.coordination a.completion
-    a.horizon a.lifecycle s e whole has _ _ c.announce-announced.ensures)
+pub returns-in-None-clause-concludes : goal.returns-in-None-clause-concludes
+returns-in-None-clause-concludes c =
+    rw c.in-Announces.is (λ s e whole beside p q. concludes-unannounced _ _ s e whole p q _ (c.in-None.ensures s whole beside p))
 
-pub returns-in-Completes-clause-concludes : goal.returns-in-Completes-clause-concludes
-returns-in-Completes-clause-concludes c =
-    let a = c.args in
-    rw (c.in-Completes.is, c.with_completion.ensures)
-    (λ s e whole has. concludes-completes a.published.now a.seconds.now a.nanoseconds.now a.microsteps.now a.count a.coordination a.completion
-    a.horizon a.lifecycle s e whole has _ c.complete_least-least.ensures)
+pub returns-in-Some-clause-concludes : goal.returns-in-Some-clause-concludes
+returns-in-Some-clause-concludes c =
+    rw c.in-Announces.is (λ s e whole beside p q. concludes-announced c.args.coordination _ s e whole p q _ _ (c.in-Some.ensures s whole beside p))
+
+pub returns-in-None-complete_least-clause-concludes : goal.returns-in-None-complete_least-clause-concludes
+returns-in-None-complete_least-clause-concludes c =
+    rw c.in-Completes.is (λ s e whole beside p q. concludes-uncompleted _ _ s e whole p q (c.in-None-complete_least.ensures s whole beside q))
+
+pub returns-in-Some-complete_least-clause-concludes : goal.returns-in-Some-complete_least-clause-concludes
+returns-in-Some-complete_least-clause-concludes c =
+    rw c.in-Completes.is (λ s e whole beside p q. concludes-completed _ c.args.completion s e whole p q _ (c.in-Some-complete_least.ensures s whole beside q))

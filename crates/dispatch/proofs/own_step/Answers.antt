@@ -1,28 +1,30 @@
--- `dispatch::own_step` meets its contract: the kind number tells the message, and its function promises that message's rule (Numbers). Assumes nothing.
-use native.Mathlib.Omega.{arith}
-use Rattle.dispatch.proofs.Numbers.{owns-active, owns-complete, owns-failed, owns-observed, owns-publish, owns-stopped}
+-- `dispatch::own_step` meets its contract: each message's function promises that message's rule. Assumes nothing.
+use mathlib.Core.Bool.{true}
+use Rattle.tags.specs.Tags.{is_proper, proper_if_present}
+use Rattle.rules.specs.Calls.{own_step}
+use Rattle.rules.proofs.Lists.{and_left}
 use Rattle.dispatch.proofs.own_step.Goals as goal
 
-pub returns-in-1-clause-step : goal.returns-in-1-clause-step
-returns-in-1-clause-step c = let r = c.activate in (owns-active c.args.flat c.args.parts r.result (omega arith) r.ensures.step r.ensures.neat).step
+pub returns-in-Active-clause-step : goal.returns-in-Active-clause-step
+unfolding own_step
+returns-in-Active-clause-step c = rw c.in-Active.is (λ e n q. rw n (c.activate.ensures.step e))
 
-pub returns-in-2-clause-step : goal.returns-in-2-clause-step
-returns-in-2-clause-step c = let r = c.publish in (owns-publish c.args.flat c.args.parts r.result (omega arith) r.ensures.step r.ensures.neat).step
+pub returns-in-Publish-clause-step : goal.returns-in-Publish-clause-step
+unfolding own_step
+returns-in-Publish-clause-step c = rw c.in-Publish.is (λ e n q. rw n (c.publish.ensures.step e (and_left (proper_if_present c.in-Publish.next_event) true q)))
 
-pub returns-in-3-clause-step : goal.returns-in-3-clause-step
-returns-in-3-clause-step c =
-    let r = c.complete in
-    (owns-complete c.args.flat c.args.parts r.result (omega arith) _ c.cell_of-cell.ensures r.ensures.step r.ensures.neat).step
+pub returns-in-CompleteTag-clause-step : goal.returns-in-CompleteTag-clause-step
+unfolding own_step
+returns-in-CompleteTag-clause-step c = rw c.in-CompleteTag.is (λ e n q. rw n (c.complete.ensures.step e (and_left (is_proper c.in-CompleteTag.tag) true q)))
 
-pub returns-in-4-clause-step : goal.returns-in-4-clause-step
-returns-in-4-clause-step c =
-    let r = c.observe_completion in
-    (owns-observed c.args.flat c.args.parts r.result (omega arith) r.ensures.step r.ensures.neat).step
+pub returns-in-CompletionObserved-clause-step : goal.returns-in-CompletionObserved-clause-step
+unfolding own_step
+returns-in-CompletionObserved-clause-step c = rw c.in-CompletionObserved.is (λ e n q. rw n (c.observe_completion.ensures.step e))
 
-pub returns-in-5-clause-step : goal.returns-in-5-clause-step
-returns-in-5-clause-step c =
-    let r = c.participant_stopped in
-    (owns-stopped c.args.flat c.args.parts r.result (omega arith) r.ensures.step r.ensures.neat).step
+pub returns-in-ParticipantStopped-clause-step : goal.returns-in-ParticipantStopped-clause-step
+unfolding own_step
+returns-in-ParticipantStopped-clause-step c = rw c.in-ParticipantStopped.is (λ e n q. c.participant_stopped.ensures.step e)
 
-pub returns-in-6-clause-step : goal.returns-in-6-clause-step
-returns-in-6-clause-step c = let r = c.fail in (owns-failed c.args.flat c.args.parts r.result (omega arith) r.ensures.step r.ensures.neat).step
+pub returns-in-Failed-clause-step : goal.returns-in-Failed-clause-step
+unfolding own_step
+returns-in-Failed-clause-step c = rw c.in-Failed.is (λ e n q. c.fail.ensures.step e)
