@@ -15,7 +15,7 @@ ghost use Rattle.acquisition.specs.Pending.{pending_of};
 ghost use Rattle.acquisition.specs.Unless.{unless_refused};
 
 use calls::Called;
-use records::{FederateAcquisition, FederatePublication, Refusal};
+use records::{CoordinationAction, FederateAcquisition, FederatePublication, Refusal};
 use state::{Coordination, FederateCoordinationState};
 use tags::Tag;
 
@@ -74,7 +74,10 @@ pub fn handle_acquisition(
     let Some(granted) = acquired.granted else {
         return calls::with_reply(state, None, None, 0);
     };
-    let advanced = emission::add_horizon(room, granted.horizon);
+    let advance = CoordinationAction::AdvanceHorizon {
+        tag: granted.horizon,
+    };
+    let advanced = emission::add(room, 0, advance);
     let written = grants::add_grants(room, advanced, &state, granted.tag);
     state.published = grants::unpublished(&state, granted.tag);
     state.coordination = granted.coordination;

@@ -10,7 +10,7 @@ ghost use Rattle.state.specs.Cells.{optional_of, stored_of};
 ghost use Rattle.state.specs.Decides.{Good};
 ghost use Rattle.grants.specs.Acquire.{is_stale, storing, brings_nothing, grantable_at, grants_of, Unpublished, Acquires};
 
-use records::FederateAcquisition;
+use records::{CoordinationAction, FederateAcquisition};
 use state::{Coordination, FederateCoordinationState, Gate};
 use tags::Tag;
 
@@ -141,8 +141,13 @@ pub fn add_grants(
     let mut total = written;
     for place in 0..state.count {
         if is_grantable(state, place, tag) {
+            let enclave = state.enclaves[place];
             let candidate = state.tag_at(place);
-            total = emission::add_grant(room, total, state.enclaves[place], candidate);
+            let grant = CoordinationAction::Grant {
+                enclave,
+                tag: candidate,
+            };
+            total = emission::add(room, total, grant);
         }
     }
     total

@@ -79,7 +79,7 @@ returns-then-is_some c =
 pub add_grants-written-requires : goal.add_grants-written-requires
 add_grants-written-requires c =
     let n = (stands (goal.at.add_grants-written-requires c).After-is_sound c.if-not-is_sound.false).few in
-    let k = c.add_horizon-advanced.ensures.few in
+    let k = c.add-advanced.ensures.few in
     (omega arith, n)
 
 pub unpublished-state-requires : goal.unpublished-state-requires
@@ -109,6 +109,6 @@ returns c =
     let passed = acquire-taken n a.acquisition.revision a.acquisition.granted a.state st w.0 w.1 in
     let decided = c.acquire-acquired.ensures st.good (is-so w.1) in
     let o = moves-promised n a.acquisition.revision a.acquisition.granted a.state st passed c.acquire-acquired.result decided c.in-Some.granted c.in-Some.is
-    a.room.now _ _ _ _ _ _ w.0 c.add_horizon-advanced.ensures.adds c.add_grants-written.ensures c.unpublished-state.ensures c.with_reply-2.ensures
+    a.room.now _ _ _ _ _ _ w.0 c.add-advanced.ensures.adds c.add_grants-written.ensures c.unpublished-state.ensures c.with_reply-2.ensures
     in
     record { promised = o.0; bytes = o.1 }

@@ -16,9 +16,9 @@ loop-place-preserved c =
     let is = sym c.is_grantable.ensures in
     elim c.if-is_grantable.branch [
       | then-is_grantable w ↦ record {
-        few = omega (arith, w.add_grant-total.ensures.few);
+        few = omega (arith, w.add-total.ensures.few);
         adds = rw (w.room-is, w.total-is) (granted-turn a.state.now a.tag l.place _ _ _ _ l.invariant.adds (is ∙ w.if-is_grantable.true) _ _
-            (rw w.tag_at-candidate.ensures at w.add_grant-total.ensures.adds));
+            (rw w.tag_at-candidate.ensures at w.add-total.ensures.adds));
       }
       | else-is_grantable w ↦ record {
         few = omega arith;
