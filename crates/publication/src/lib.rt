@@ -1,6 +1,5 @@
 // Publication (document 01, "Revise", "Active" and "Publish"; state.rs: revise_publication, activate, publish). The state is lent and small parts go
 // in and out by value. Nothing is refused here.
-// Kept: a phase or a policy that is read is compared by its number, which the state holds for the C interface.
 #![tactic(auto)]
 
 ghost use Rattle.std.specs.Prelude.{◌≡◌, false, ℕ, ◌≤◌, T, Option};
@@ -15,7 +14,7 @@ ghost use Rattle.state.specs.Decides.{Decides, neat_parts, said_of};
 ghost use Rattle.publication.specs.Announce.{dropped_of, Announces};
 ghost use Rattle.publication.specs.Revise.{revised_of, unprobed_of};
 
-use records::CoordinationPhase;
+use records::{CoordinationPhase, LifecyclePolicy};
 use state::{
     ABSENT, Completion, Coordination, Decided, FederateCoordinationState, Gate, Next, Notice, Parts,
 };
@@ -67,7 +66,7 @@ pub fn activate(parts: Parts) -> Decided
     let mut next = parts;
     next.row.published = false;
     next.completion = unprobed(parts.completion);
-    if c.phase == 6 {
+    if c.phase == u8::from(CoordinationPhase::Stopped) {
         return says(next, None);
     }
     next.coordination = revised(c);
@@ -82,11 +81,14 @@ pub fn activate(parts: Parts) -> Decided
 fn repeated(phase: u8) -> Option<Notice>
     ensures { (e v : ℕ) → repeated (phase_of phase) v ≡ said_of result e v }
 {
-    match phase {
-        1 => Some(Notice::Probe),
-        2 => Some(Notice::Park),
-        3 => Some(Notice::Recheck),
-        _ => None,
+    if phase == u8::from(CoordinationPhase::Probing) {
+        Some(Notice::Probe)
+    } else if phase == u8::from(CoordinationPhase::Parking) {
+        Some(Notice::Park)
+    } else if phase == u8::from(CoordinationPhase::Rechecking) {
+        Some(Notice::Recheck)
+    } else {
+        None
     }
 }
 
@@ -96,7 +98,7 @@ pub fn publish(parts: Parts, next_event: Option<Tag>) -> Decided
     ensures neat { T (proper_if_present next_event) → T (neat_parts parts) → T (neat_parts result.parts) }
 {
     let c = parts.coordination;
-    if c.phase == 6 {
+    if c.phase == u8::from(CoordinationPhase::Stopped) {
         return says(parts, None);
     }
     let candidate = state::cell_of(next_event);
@@ -118,7 +120,7 @@ pub fn publish(parts: Parts, next_event: Option<Tag>) -> Decided
     Decided {
         parts: next,
         forgets: true,
-        next: Next::Announces(c.phase != 0),
+        next: Next::Announces(c.phase != u8::from(CoordinationPhase::Active)),
     }
 }
 
@@ -128,7 +130,7 @@ fn idle_phase(next_event: Tag, lifecycle: u8) -> CoordinationPhase
 {
     if !state::is_absent(next_event) {
         CoordinationPhase::Active
-    } else if lifecycle == 0 {
+    } else if lifecycle == u8::from(LifecyclePolicy::KeepAlive) {
         CoordinationPhase::Parked
     } else {
         CoordinationPhase::Probing
