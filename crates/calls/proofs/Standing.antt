@@ -16,14 +16,11 @@ use Rattle.rules.specs.Walk.{quiet}
 use Rattle.rules.specs.Calls.{facts, take_step, is_sound, ascending, refused_answer}
 use Rattle.rules.proofs.Sound.{sound-ascending}
 use Rattle.state.specs.declared.FederateCoordinationState.{FederateCoordinationState as Held}
-use Rattle.state.specs.Cells.{is_cell}
 use Rattle.state.specs.View.{rows_of, view, represents}
 use Rattle.state.specs.Parts.{Sized}
 use Rattle.state.specs.Decides.{Good}
 use Rattle.state.proofs.Neat.{count-bounds}
 use Rattle.state.proofs.Put.{Beyond, beyond-refl, holds-is-put}
-use Rattle.soundness.specs.Sound.{sound_publication, sound_flags, sound_inputs, sound_acquisition, sound_rest, sound_small}
-use Rattle.soundness.proofs.Sound.{small-by-leaves}
 use Rattle.calls.specs.Called.{refusal_of, Promised, replied}
 use Rattle.calls.specs.declared.Called.{Called}
 use Rattle.calls.proofs.Refusals.{Passes, passes, refusal-27, refused, taken}
@@ -50,23 +47,6 @@ sized-by s a b c d e f g h = record {
   nanoseconds = lasting s.nanoseconds 96 g;
   microsteps = lasting s.microsteps 96 h;
 }
-
--- what 27 asks of it, by its small parts' tests, of coordination and completion and then of the rest, and by the test that rests on them
-pub sound-by-leaves : (s : Held) {flags publication frontiers inputs both horizons acquisition rest small r : Bool}
-    → let c = s.coordination in let k = s.completion in let g = s.gate in
-    flags ≡ sound_flags c.phase c.authorized c.idle_authorization
-    → publication ≡ sound_publication c.pending c.pending_revision c.pending_next_event c.pending_grant_horizon
-    → frontiers ≡ (is_cell k.completed_frontier && is_cell k.completion_probe)
-    → inputs ≡ sound_inputs k.first_input k.last_input
-    → both ≡ (flags && publication && frontiers && inputs)
-    → horizons ≡ (is_cell g.granted && is_cell g.input_horizon)
-    → acquisition ≡ sound_acquisition g.stored_revision g.stored_granted
-    → rest ≡ sound_rest s.grant_horizon s.failed s.first_failure s.lifecycle
-    → small ≡ (both && horizons && acquisition && rest)
-    → (small ≡ sound_small s → r ≡ (represents s && is_sound (view s)))
-    → r ≡ (represents s && is_sound (view s))
-sound-by-leaves s a b d i p j q r z by-small =
-    by-small (small-by-leaves s.coordination s.completion s.gate s.grant_horizon s.failed s.first_failure s.lifecycle a b d i j q r p z)
 
 -- ---- a state that passes 27
 

@@ -19,7 +19,7 @@ use Rattle.state.specs.Walk.{tab, all_of}
 use Rattle.state.specs.Cells.{absent, is_absent, optional_of, is_neat, is_cell, is_zero_unless, publication_if, inputs_of, stored_of}
 use Rattle.state.specs.View.{tag_at, row_at, rows_of, view, neat_at, neat_coordination, neat_completion, neat_gate, represents}
 use Rattle.state.proofs.Rows.{all-rows, all_same, length-rows, cell-split}
-use Rattle.soundness.specs.Sound.{rises, sound_at, sound_publication, sound_flags, sound_coordination, sound_inputs, sound_completion, sound_acquisition, sound_gate, sound_parts, sound_rest, sound_small, sound_places}
+use Rattle.soundness.specs.Sound.{rises, sound_at, sound_coordination, sound_inputs, sound_completion, sound_acquisition, sound_gate, sound_parts, sound_places}
 use Rattle.soundness.proofs.Cells.{Told, mark, hidden, proper, improper, told}
 
 -- ---- conjunctions in another order: `simp sorted`
@@ -40,7 +40,7 @@ two_cells : (a b : Tag) → (is_cell a && is_cell b) ≡ ((is_neat a && is_neat 
 two_cells a b = rw (cell-split a, cell-split b) (simp sorted)
 
 publication-is : (b : Bool) (r : ℕ) (n h : Tag)
-    → sound_publication b r n h ≡
+    → cond b (is_cell n && is_cell h) (eqb r 0 && (n ≡ₜ absent && h ≡ₜ absent)) ≡
     (cond b (is_neat n && is_neat h) (eqb r 0 && n ≡ₜ absent && h ≡ₜ absent) && proper_publication (publication_if b r n h))
 publication-is true r n h = two_cells n h
 publication-is false r n h = sym (and-true (eqb r 0 && n ≡ₜ absent && h ≡ₜ absent) ∙ and_assoc (eqb r 0) (n ≡ₜ absent) (h ≡ₜ absent))
@@ -177,20 +177,17 @@ module _ (s : Held) where
 
 -- ---- the whole, in the order of the code
 
-abbrev sound_of : Bool → Held → Bool
-sound_of small s = (ltb 0 s.count && leb s.count 32) && (small && sound_places s)
-
 -- at most 32; coordination, completion, gate and rest with their tags; the indices ascend and are low, the places are neat and their tags proper
 ordered : (m c c₁ k k₁ k₂ k₃ g g₁ g₂ g₃ l h₁ h f a i p q : Bool)
-    → (m && ((((c && c₁) && ((k && k₁ && k₂ && k₃) && (g && g₁ && g₂ && g₃))) && (l && ((h₁ && h) && f))) && ((a && i) && (p && q)))) ≡
+    → ((m && ((c && c₁) && ((k && k₁ && k₂ && k₃) && ((g && g₁ && g₂ && g₃) && (l && ((h₁ && h) && f)))))) && ((a && i) && (p && q))) ≡
     ((p && c && k && g && h && f && l) && (m && a && ((i && q) && g₂) && h₁ && k₁ && k₂ && g₁ && c₁ && k₃ && g₃))
 ordered m c c₁ k k₁ k₂ k₃ g g₁ g₂ g₃ l h₁ h f a i p q = simp sorted
 
-sound-of : (s : Held) → sound_of (sound_small s) s ≡ (represents s && is_sound (view s))
+sound-held : (s : Held) → (sound_parts s && sound_places s) ≡ (represents s && is_sound (view s))
 unfolding represents is_sound
-sound-of s = go (ltb 0 s.count) refl
+sound-held s = go (ltb 0 s.count) refl
   where
-    go : (z : Bool) → ltb 0 s.count ≡ z → sound_of (sound_small s) s ≡ (represents s && is_sound (view s))
+    go : (z : Bool) → ltb 0 s.count ≡ z → (sound_parts s && sound_places s) ≡ (represents s && is_sound (view s))
     go false e = simp (length-rows s, e, and-false)
     go true e =
         let c = s.coordination in
@@ -205,22 +202,6 @@ sound-of s = go (ltb 0 s.count) refl
         (leb s.lifecycle 2) (proper-if h) (is_neat h) (is_zero_unless s.failed s.first_failure) (ascending (rows_of s)) (all_of (low s) 0 s.count)
         (all_of (neat_at s) 0 s.count) (all_of (place-tags s) 0 s.count))
 
--- by the tests of the count, the small parts and the places
-pub sound-by : (s : Held) {a b d : Bool} → a ≡ (ltb 0 s.count && leb s.count 32) → b ≡ sound_small s → d ≡ sound_places s
-    → (a && (b && d)) ≡ (represents s && is_sound (view s))
-sound-by s p q r = rw (p, q, r) (sound-of s)
-
--- ---- the small parts' tests, as callers join them
-
-module _ (c : Coordination) (k : Completion) (g : Gate) (h : Tag) (f : Bool) (e l : ℕ) where
-  pub small-by-leaves : {flags publication frontiers inputs horizons acquisition rest x y : Bool}
-      → flags ≡ sound_flags c.phase c.authorized c.idle_authorization
-      → publication ≡ sound_publication c.pending c.pending_revision c.pending_next_event c.pending_grant_horizon
-      → frontiers ≡ (is_cell k.completed_frontier && is_cell k.completion_probe)
-      → inputs ≡ sound_inputs k.first_input k.last_input
-      → horizons ≡ (is_cell g.granted && is_cell g.input_horizon)
-      → acquisition ≡ sound_acquisition g.stored_revision g.stored_granted
-      → rest ≡ sound_rest h f e l
-      → x ≡ (flags && publication && frontiers && inputs) → y ≡ (x && horizons && acquisition && rest)
-      → y ≡ (sound_parts c k g && sound_rest h f e l)
-  small-by-leaves a b d i j q r p z = rw (z, p, a, b, d, i, j, q, r) (simp and_assoc)
+-- by the tests of the parts and of the places
+pub sound-by : (s : Held) {a b : Bool} → a ≡ sound_parts s → b ≡ sound_places s → (a && b) ≡ (represents s && is_sound (view s))
+sound-by s p q = rw (p, q) (sound-held s)

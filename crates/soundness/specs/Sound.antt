@@ -13,16 +13,16 @@ use Rattle.state.specs.View.{tag_at}
 
 -- ---- the small parts
 
-abbrev pub sound_publication : Bool → ℕ → Tag → Tag → Bool
-sound_publication b r n h = cond b (is_cell n && is_cell h) (eqb r 0 && (n ≡ₜ absent && h ≡ₜ absent))
+abbrev pub sound_count : ℕ → Bool
+sound_count n = ltb 0 n && leb n 32
 
-abbrev pub sound_flags : ℕ → Bool → ℕ → Bool
-sound_flags phase authorized idle = leb phase 6 && is_zero_unless authorized idle
+abbrev pub sound_publication : Coordination → Bool
+sound_publication c =
+    cond c.pending (is_cell c.pending_next_event && is_cell c.pending_grant_horizon)
+    (eqb c.pending_revision 0 && (c.pending_next_event ≡ₜ absent && c.pending_grant_horizon ≡ₜ absent))
 
 abbrev pub sound_coordination : Coordination → Bool
-sound_coordination c =
-    sound_flags c.phase c.authorized c.idle_authorization &&
-    sound_publication c.pending c.pending_revision c.pending_next_event c.pending_grant_horizon
+sound_coordination c = leb c.phase 6 && (is_zero_unless c.authorized c.idle_authorization && sound_publication c)
 
 abbrev pub sound_inputs : Tag → Tag → Bool
 sound_inputs first last = cond (first ≡ₜ absent) (last ≡ₜ absent) (is_proper first && is_proper last)
@@ -36,16 +36,13 @@ sound_acquisition r t = cond (t ≡ₜ absent) (eqb r 0) (is_proper t)
 abbrev pub sound_gate : Gate → Bool
 sound_gate g = (is_cell g.granted && is_cell g.input_horizon) && sound_acquisition g.stored_revision g.stored_granted
 
-abbrev pub sound_parts : Coordination → Completion → Gate → Bool
-sound_parts c k g = sound_coordination c && (sound_completion k && sound_gate g)
-
-abbrev pub sound_rest : Tag → Bool → ℕ → ℕ → Bool
-sound_rest h f e l = leb l 2 && (is_cell h && is_zero_unless f e)
+abbrev pub sound_rest : Held → Bool
+sound_rest s = leb s.lifecycle 2 && (is_cell s.grant_horizon && is_zero_unless s.failed s.first_failure)
 
 -- all of them
-abbrev pub sound_small : Held → Bool
-sound_small s =
-    sound_parts s.coordination s.completion s.gate && sound_rest s.grant_horizon s.failed s.first_failure s.lifecycle
+abbrev pub sound_parts : Held → Bool
+sound_parts s =
+    sound_count s.count && (sound_coordination s.coordination && (sound_completion s.completion && (sound_gate s.gate && sound_rest s)))
 
 -- ---- the participants
 

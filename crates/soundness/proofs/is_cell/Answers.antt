@@ -4,11 +4,10 @@ use mir.Syntax.{w32}
 use mir.Val.{SFits, to_z}
 use mir.Facts.{to_z-of_z}
 use borrow.Author.Rules.{rules}
-use borrow.Author.Tests.{eq-eqb}
 use Rattle.soundness.proofs.Cells.{cell-none}
 use Rattle.soundness.proofs.is_cell.Goals as goal
 
 pub returns-then-t-eq0 : goal.returns-then-t-eq0
 returns-then-t-eq0 c = let t = c.args.t in
     let n : SFits w32 t.nanoseconds = search rules in
-    eq-eqb _ 0 c.if-t-eq0.true ∙ cell-none t (sym (to_z-of_z n) ∙ ap (to_z w32) c.if-t-eq0.true)
+    cell-none t (sym (to_z-of_z n) ∙ ap (to_z w32) c.if-t-eq0.true)
