@@ -16,7 +16,7 @@ pub struct Reply {
     pub actions: usize,
 }
 
-#[derive(Clone, Copy)]
+#[derive(Clone, Copy, PartialEq, Eq)]
 pub struct Called {
     pub state: FederateCoordinationState,
     pub reply: Reply,

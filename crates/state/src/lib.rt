@@ -19,7 +19,7 @@ pub const STARTED: usize = 64;
 // beside: it is how the C interface and the host lay the state out.
 // Revision, phase, idle authorization and pending publication.
 #[repr(C)]
-#[derive(Clone, Copy)]
+#[derive(Clone, Copy, PartialEq, Eq)]
 pub struct Coordination {
     pub phase: u8,
     pub authorized: bool,
@@ -33,7 +33,7 @@ pub struct Coordination {
 
 // Frontier, pending pair of network inputs, generation and probe of completion.
 #[repr(C)]
-#[derive(Clone, Copy)]
+#[derive(Clone, Copy, PartialEq, Eq)]
 pub struct Completion {
     pub completed_frontier: Tag,
     pub first_input: Tag,
@@ -44,7 +44,7 @@ pub struct Completion {
 
 // Input horizon, stored acquisition, and the tag granted to every participant: an acquisition grants one tag to all, an input notice drops it for all.
 #[repr(C)]
-#[derive(Clone, Copy)]
+#[derive(Clone, Copy, PartialEq, Eq)]
 pub struct Gate {
     pub input_horizon: Tag,
     pub stored_revision: u64,
@@ -53,7 +53,7 @@ pub struct Gate {
 }
 
 #[repr(C)]
-#[derive(Clone, Copy)]
+#[derive(Clone, Copy, PartialEq, Eq)]
 pub struct FederateCoordinationState {
     pub count: usize,
     pub enclaves: [u32; 32],
