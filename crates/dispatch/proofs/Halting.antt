@@ -18,27 +18,23 @@ use Rattle.state.specs.declared.FederateCoordinationState.{FederateCoordinationS
 use Rattle.state.specs.declared.Coordination.{Coordination}
 use Rattle.state.specs.declared.Parts.{Parts}
 use Rattle.state.specs.declared.Decided.{Decided}
-use Rattle.state.specs.Cells.{enclave_if, is_zero_unless}
 use Rattle.state.specs.View.{view}
 use Rattle.state.specs.Parts.{Seated, parts_of, without_pending}
 use Rattle.state.specs.Decides.{Decides, Good, conclusion, halfway, neat_parts}
 use Rattle.state.proofs.Neat.{neat-without-pending}
+use Rattle.state.proofs.Round.{number-back, number-neat}
 use Rattle.state.proofs.Halves.{Goes, decides-by, goes-nothing, rows-kept, saying, stopped-is}
 use Rattle.publication.proofs.Neat.{parts-of, parts_whole}
 
 -- the enclave's cells and the completion kept
 abbrev halting : Parts → Coordination → Bool → ℕ → Parts
-halting p c b n = record { row = p.row; coordination = c; completion = p.completion; failed = b; first_failure = n }
+halting p c b n = record p { coordination = c; failed = b; first_failure = n }
 
 abbrev stopping : Parts → Decided
 stopping p = saying (Some AsStop) (halting p (without_pending 6 p.coordination) p.failed p.first_failure)
 
 abbrev failing : Option ℕ → Parts → Decided
 failing m p = saying (Some AsAbort) (halting p (without_pending 6 p.coordination) (is_some m) (unwrap_or m 0))
-
-enclave-back : (m : Option ℕ) → enclave_if (is_some m) (unwrap_or m 0) ≡ m
-enclave-back None = refl
-enclave-back (Some e) = refl
 
 -- ---- in a state that has the parts
 
@@ -64,13 +60,9 @@ module _ (e : ℕ) (s : Held) (i : ℕ) (g : Good s) (d : Seated s e i) where
       let t = halfway s i (failing m (parts_of s i)) in
       rw (stopped-is s g.neat ∙ ne_eqb s.coordination.phase 6 h)
       (ap₂ (λ (ps : List Participant) (f : Option ℕ). emit (Abort ∷ []) (with_first_failure f (with_participants ps (view t))))
-      (sym (rows-kept s e i (failing m (parts_of s i)).parts g d refl)) (sym (enclave-back m)))
+      (sym (rows-kept s e i (failing m (parts_of s i)).parts g d refl)) (sym (number-back m)))
 
 -- ---- of the parts
-
-neat-named : (m : Option ℕ) → T (is_zero_unless (is_some m) (unwrap_or m 0))
-neat-named None = tt
-neat-named (Some e) = tt
 
 module _ (p : Parts) (h : p.coordination.phase ≡ 6) (e : ℕ) where
   pub stop-stopped : Decides stop_of e p (saying None p)
@@ -97,4 +89,4 @@ module _ (p : Parts) (c : Coordination) (u : c ≡ without_pending 6 p.coordinat
   neat-failing m h =
       let v = parts-of p h in
       let halts = neat-without-pending p.coordination 6 (omega arith) v.coordination in
-      rw u (parts_whole (failing m p).parts (record { row = v.row; coordination = halts; completion = v.completion; failure = neat-named m }))
+      rw u (parts_whole (failing m p).parts (record { row = v.row; coordination = halts; completion = v.completion; failure = number-neat m }))

@@ -40,10 +40,6 @@ tag_in ss ns ms k = record { seconds = get_or ss k (pos 0); nanoseconds = get_or
 abbrev pub number_if : Bool → ℕ → Option ℕ
 number_if b n = cond b (Some n) None
 
--- for crate dispatch, until it says `number_if`
-abbrev pub enclave_if : Bool → ℕ → Option ℕ
-enclave_if b n = number_if b n
-
 -- an absent number is 0
 abbrev pub is_zero_unless : Bool → ℕ → Bool
 is_zero_unless b n = b || eqb n 0
