@@ -1,41 +1,37 @@
--- The words of a line as the code hands them on: up to three after its first one, each with the space before it. Assumes nothing.
-use Rattle.std.specs.Prelude.{ℕ, Bool, true, false, cond, List, [], ◌∷◌, ◌++◌}
+-- The words of a line as the code hands them on: those after its first one, each with the space before it. Assumes nothing.
+use Rattle.std.specs.Prelude.{ℕ, ◌+◌, List, [], ◌∷◌, ◌++◌}
 use Rattle.numerals.specs.Numerals.{text}
 use Rattle.printing.specs.Printing.{decimal, optional_tag_text}
 use Rattle.fields.specs.Words.{phase_text}
 use Rattle.fields.specs.declared.Field.{Field}
-use Rattle.fields.specs.declared.Field.TheVariants.{Blank, Number, Time, Phase}
-
-abbrev pub is_blank : Field → Bool
-is_blank Blank = true
-is_blank (Number n) = false
-is_blank (Time t) = false
-is_blank (Phase p) = false
+use Rattle.fields.specs.declared.Field.TheVariants.{Number, Time, Phase}
 
 abbrev pub word_of : Field → List ℕ
-word_of Blank = []
 word_of (Number n) = decimal n
 word_of (Time t) = optional_tag_text t
 word_of (Phase p) = phase_text p
 
--- the most bytes that the word takes
+-- the most bytes that the word takes, and that fields take with the space before each
 abbrev pub room_of : Field → ℕ
-room_of Blank = 0
 room_of (Number n) = 20
 room_of (Time t) = 64
 room_of (Phase p) = 24
 
--- the words of those that are not blank
+abbrev pub room_for : List Field → ℕ
+room_for [] = 0
+room_for (f ∷ fs) = 1 + room_of f + room_for fs
+
 abbrev pub words : List Field → List (List ℕ)
 words [] = []
-words (f ∷ fs) = cond (is_blank f) (words fs) (word_of f ∷ words fs)
+words (f ∷ fs) = word_of f ∷ words fs
 
 -- a word with the space before it
 abbrev pub field_text : Field → List ℕ
-field_text f = cond (is_blank f) [] (text " " ++ word_of f)
+field_text f = text " " ++ word_of f
 
-abbrev pub fields_text : Field → Field → Field → List ℕ
-fields_text one two three = field_text one ++ (field_text two ++ field_text three)
+abbrev pub fields_text : List Field → List ℕ
+fields_text [] = []
+fields_text (f ∷ fs) = field_text f ++ fields_text fs
 
 -- what stands in a line after its first word
 abbrev pub rest : List (List ℕ) → List ℕ

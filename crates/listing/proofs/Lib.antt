@@ -1,2 +1,2 @@
-pub mod Actions
+pub mod Marks
 pub mod Records

@@ -9,8 +9,8 @@ use Rattle.listing.proofs.put_actions.Goals as goal
 
 pub loop-i-init : goal.loop-i-init
 unfolding record_lines
-loop-i-init c = let s = c.args in (omega arith, refl, put-nothing s.out.now s.at 0)
+loop-i-init c = let s = c.args in (refl, put-nothing s.out.now s.at 0)
 
 pub loop-i-preserved : goal.loop-i-preserved
 loop-i-preserved c = let s = c.args in
-    (omega arith, omega arith, then-record c.loop-i.i s.records.now c.loop-i.invariant.2 c.put_record-place.ensures (omega arith))
+    (omega arith, then-record c.loop-i.i s.records.now c.loop-i.invariant.1 c.put_record-place.ensures (omega arith))
