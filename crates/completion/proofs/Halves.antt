@@ -2,7 +2,6 @@
 -- ones, the rules' change of the enclave's participant and of the pending pair. Assumes nothing.
 use Rattle.std.specs.Prelude.{None, Some}
 use mathlib.Core.Path.{◌≡◌, refl, sym, ap, ap₂, ◌∙◌}
-use mathlib.Core.Logic.{◌↔◌}
 use mathlib.Core.Bool.{Bool, true, false, cond, ◌&&◌}
 use mathlib.Core.List.{List, map}
 use Prim.Native.Nat.{ℕ}
@@ -12,8 +11,6 @@ use Rattle.rules.specs.Model.{Tag, OptionalInputs, Participant, State, Step}
 use Rattle.rules.specs.Set.{with_completed, with_completion_observed, with_participants, with_pending_inputs}
 use Rattle.rules.specs.Walk.{at, only, quiet, is_stopped}
 use Rattle.rules.specs.Completion.{least_completed, complete_all, noted, complete_by, complete_tag_of, answers_probe, observed_of}
-use Rattle.rules.proofs.Lists.{and_left, and_right}
-use Rattle.rules.proofs.Invariants.{and_intro}
 use Rattle.state.specs.declared.FederateCoordinationState.{FederateCoordinationState as Held}
 use Rattle.state.specs.declared.Completion.{Completion}
 use Rattle.state.specs.declared.Parts.{Parts}
@@ -24,7 +21,7 @@ use Rattle.state.specs.View.{row_at, rows_of, view, neat_coordination, neat_comp
 use Rattle.state.specs.Parts.{Seated, parts_of, rebuilt}
 use Rattle.state.specs.Decides.{Good, Decides, conclusion, neat_row, neat_parts}
 use Rattle.state.proofs.Rows.{found, proper-present}
-use Rattle.state.proofs.Neat.{completion-parts, completion-whole}
+use Rattle.state.proofs.Neat.{and_parts, completion-parts, completion-whole}
 use Rattle.completion.specs.Changes.{widened_by}
 use Rattle.state.proofs.Halves.{stopped-is, rows-only, view-kept}
 use Rattle.completion.proofs.Cells.{widened-pair, neat-present, neat-widened}
@@ -39,9 +36,6 @@ unfolding conclusion
 decides-nothing rule e p h s i good d eq = h s i good d eq ∙ rw (← eq) (ap quiet (sym (view-kept s e i good d)))
 
 -- ---- conjuncts replaced
-
-and_parts : (a b : Bool) → T (a && b) ↔ (T a × T b)
-and_parts a b = (λ h. (and_left a b h, and_right a b h), λ h. and_intro a b h.0 h.1)
 
 neat-swap : (a b c d x y : Bool) → (T a → T x) → (T c → T y) → T (a && b && c && d) → T (x && b && y && d)
 neat-swap a b c d x y f g h =
