@@ -1,7 +1,7 @@
 -- A scheduler message, taken: its own rule in two halves, then the completion step, give `take_step` of the rules, and the state with the parts stored
 -- represents its state. The state between is sound because the rules keep it so. Assumes nothing.
-use mathlib.Core.Path.{◌≡◌, refl, sym, ap, ◌∙◌, subst}
-use mathlib.Core.Bool.{false, ◌&&◌}
+use mathlib.Core.Path.{◌≡◌, refl, ap, ◌∙◌, subst}
+use mathlib.Core.Bool.{Bool, ◌&&◌}
 use mathlib.Core.List.{◌++◌}
 use Prim.Native.Nat.{ℕ, ◌<◌}
 use lib.Dec.{T}
@@ -20,15 +20,15 @@ use Rattle.state.proofs.Neat.{count-bounds, neat-gate, neat-rebuilt, neat-with-c
 use Rattle.state.proofs.Put.{Beyond, beyond-rebuilt, beyond-trans, beyond-sized, beyond-columns}
 use Rattle.publication.specs.Announce.{dropped_if}
 use Rattle.publication.proofs.Announcing.{dropped-neat}
-use Rattle.completion.specs.Advance.{sayings, Advances}
+use Rattle.completion.specs.Advance.{sayings, Steps}
 use Rattle.completion.specs.declared.Advanced.{Advanced}
-use Rattle.dispatch.specs.Messages.{call_of, enclave_of, tag_of, actions_of, Concludes}
+use Rattle.dispatch.specs.Messages.{call_of, enclave_of, tag_of, actions_of, drops, Concludes}
 use Rattle.dispatch.specs.declared.Concluded.{Concluded}
 use Rattle.federate.proofs.Message.{is-message, message-proper, Sits}
 
 -- the state after the message's own rule
 abbrev pub own_end : Held → ℕ → Decided → Concluded → Held
-own_end s i d k = with_gate (dropped_if k.drops s.gate) (with_completion k.completion (with_coordination k.coordination (halfway s i d)))
+own_end s i d k = with_gate (dropped_if (drops k.said) s.gate) (with_completion k.completion (with_coordination k.coordination (halfway s i d)))
 
 -- the state after the completion step
 abbrev pub whole_end : Held → ℕ → Decided → Concluded → Advanced → Held
@@ -58,7 +58,7 @@ module _ (s : Held) (m : SchedulerMessage) (i : ℕ) (d : Decided) (k : Conclude
       let c = with_coordination k.coordination h in
       let p = neat-with-coordination h (halfway-neat s i d good place.seat.within neat) k.coordination concludes.coordination in
       let q = neat-with-completion c p k.completion concludes.completion in
-      neat-with-gate (with_completion k.completion c) q (dropped_if k.drops s.gate) (dropped-neat k.drops s.gate (neat-gate s good.neat))
+      neat-with-gate (with_completion k.completion c) q (dropped_if (drops k.said) s.gate) (dropped-neat (drops k.said) s.gate (neat-gate s good.neat))
 
   pub own-good : Good (own_end s i d k)
   own-good = record {
@@ -67,17 +67,16 @@ module _ (s : Held) (m : SchedulerMessage) (i : ℕ) (d : Decided) (k : Conclude
     sound = subst (λ (o : Step). T (is_sound o.state)) own_is (own-keeps-sound (call_of m) (view s) good.sound (rw (message-proper m) proper));
   }
 
-  module _ (a : Advanced) (advances : Advances (own_end s i d k) a) where
-    pub spent-is : ((facts (call_of m)).message && is_spent (own_step (call_of m) (view s)).state) ≡ a.spent
-    spent-is = rw (is-message m) (ap (λ (o : Step). is_spent o.state) own_is ∙ sym advances.spent)
+  pub spent-is : (b : Bool) → is_spent (view (own_end s i d k)) ≡ b → ((facts (call_of m)).message && is_spent (own_step (call_of m) (view s)).state) ≡ b
+  spent-is b h = rw (is-message m) (ap (λ (o : Step). is_spent o.state) own_is ∙ h)
 
+  module _ (a : Advanced) (steps : Steps (own_end s i d k) a) where
     pub end-beyond : Beyond s (whole_end s i d k a)
     end-beyond = beyond-trans s (own_end s i d k) (whole_end s i d k a) own-beyond (beyond-columns (own_end s i d k) (whole_end s i d k a) refl refl refl refl refl refl refl refl refl)
 
     pub end-neat : T (represents (whole_end s i d k a))
-    end-neat = neat-with-completion (own_end s i d k) own-neat a.completion advances.neat
+    end-neat = neat-with-completion (own_end s i d k) own-neat a.completion steps.neat
 
-    pub step_is : a.spent ≡ false
-        → take_step (call_of m) (view s) ≡ record { state = view (whole_end s i d k a); actions = actions_of (get_or s.enclaves i 0) k.said k.coordination ++ sayings a.saying (own_end s i d k) a }
+    pub step_is : take_step (call_of m) (view s) ≡ record { state = view (whole_end s i d k a); actions = actions_of (get_or s.enclaves i 0) k.said k.coordination ++ sayings (own_end s i d k) a.saying a.completion.completion_generation }
     unfolding take_step
-    step_is free = rw (is-message m) (ap then_advance own_is ∙ ap (λ (o : Step). also (record { state = view (own_end s i d k); actions = actions_of (get_or s.enclaves i 0) k.said k.coordination }) o) (advances.step free))
+    step_is = rw (is-message m) (ap then_advance own_is ∙ ap (λ (o : Step). also (record { state = view (own_end s i d k); actions = actions_of (get_or s.enclaves i 0) k.said k.coordination }) o) steps.step)

@@ -3,29 +3,28 @@
 -- both steps say. Assumes nothing.
 use Rattle.std.specs.Prelude.{None, Some}
 use mathlib.Core.Path.{◌≡◌, refl, sym, ap, ◌∙◌, subst}
-use mathlib.Core.Bool.{true, false, ◌&&◌}
+use mathlib.Core.Bool.{Bool, true, false}
 use mathlib.Core.List.{List, [], ◌++◌}
-use mathlib.Core.Logic.{◌⊎◌, inl, inr}
 use Prim.Native.Nat.{ℕ, ◌+◌, ◌*◌, ◌≤◌, ◌<◌}
 use native.Mathlib.Omega.{arith}
 use lib.Dec.{T}
-use lib.IntN.{ℤ, pos}
+use lib.IntN.{pos}
 use lib.ListN.{length, get_or}
 use Rattle.tags.specs.Tags.{proper_if_present}
-use Rattle.records.specs.declared.Refusal.TheVariants.{GenerationSpent}
+use Rattle.records.specs.declared.Refusal.{Refusal}
 use Rattle.records.specs.declared.SchedulerMessage.{SchedulerMessage}
 use Rattle.rules.specs.Model.{CoordinationAction, Step}
-use Rattle.rules.specs.Calls.{facts, all_proper, own_step, take_step, is_spent}
+use Rattle.rules.specs.Calls.{facts, all_proper, own_step, take_step}
 use Rattle.state.specs.declared.FederateCoordinationState.{FederateCoordinationState as Held}
 use Rattle.state.specs.declared.Decided.{Decided}
 use Rattle.state.specs.declared.Row.{Row}
-use Rattle.state.specs.declared.Coordination.{Coordination}
-use Rattle.state.specs.declared.Completion.{Completion}
 use Rattle.state.specs.declared.Gate.{Gate}
 use Rattle.state.specs.declared.Parts.{Parts}
+use Rattle.state.specs.Beside.{Beside}
 use Rattle.state.specs.View.{view, represents}
-use Rattle.state.specs.Parts.{Sized, row_of, parts_of, rebuilt, cleared, with_coordination, with_completion, with_gate}
+use Rattle.state.specs.Parts.{Sized, row_of, with_row, parts_of, rebuilt, cleared, with_coordination, with_completion, with_gate}
 use Rattle.state.specs.Decides.{Good, Decides, halfway, neat_parts}
+use Rattle.state.proofs.Beside.{beside-along}
 use Rattle.state.proofs.Neat.{place-parts, neat-place, neat-coordination, neat-completion, neat-failure}
 use Rattle.publication.specs.Announce.{dropped_of}
 use Rattle.publication.proofs.Neat.{parts_whole, row-whole}
@@ -36,11 +35,12 @@ use Rattle.calls.proofs.Ends.{Ends, ends-taken, actions-fit}
 use Rattle.completion.specs.declared.Advanced.{Advanced}
 use Rattle.completion.specs.declared.Saying.{Saying}
 use Rattle.completion.specs.declared.Saying.TheVariants.{Nothing, Probes, Completes}
-use Rattle.completion.specs.Advance.{Advances, sayings}
+use Rattle.completion.specs.Advance.{Spends, Steps, sayings}
 use Rattle.dispatch.specs.declared.Concluded.{Concluded}
-use Rattle.dispatch.specs.declared.Flat.{Flat}
-use Rattle.dispatch.specs.Messages.{call_of, enclave_of, tag_of, flat_of, Names, actions_of, Concludes}
-use Rattle.emission.specs.Written.{Written, Adds, said_by}
+use Rattle.dispatch.specs.declared.Said.{Said}
+use Rattle.dispatch.specs.declared.Said.TheVariants.{Word, Announcement, Completion as Completing}
+use Rattle.dispatch.specs.Messages.{call_of, enclave_of, tag_of, Names, actions_of, drops, Concludes}
+use Rattle.emission.specs.Written.{Written, Adds}
 use Rattle.emission.proofs.Adding.{none_written}
 use Rattle.federate.proofs.Message.{is-silent, message-proper, Sits}
 use Rattle.federate.proofs.Scheduler.{own_end, whole_end, halfway-neat, own-good, spent-is, end-beyond, end-neat, step_is}
@@ -56,41 +56,7 @@ pub record Enters (room : List ℕ) (m : SchedulerMessage) (s : Held) (i : ℕ) 
 
 -- ---- the cells put back
 
-abbrev pub with_row : Held → ℕ → Row → Held
-with_row s i w = rebuilt s i (record { row = w; coordination = s.coordination; completion = s.completion; failed = s.failed; first_failure = s.first_failure }) s.observation s.gate
-
--- the columns of tags as they were handed back, and that they are those of the state
-abbrev pub with_columns : List ℤ → List ℤ → List ℕ → Held → Held
-with_columns ss ns ms s = record {
-  count = s.count;
-  enclaves = s.enclaves;
-  published = s.published;
-  observation = s.observation;
-  acknowledged = s.acknowledged;
-  completion_observed = s.completion_observed;
-  seconds = ss;
-  nanoseconds = ns;
-  microsteps = ms;
-  coordination = s.coordination;
-  completion = s.completion;
-  gate = s.gate;
-  grant_horizon = s.grant_horizon;
-  failed = s.failed;
-  lifecycle = s.lifecycle;
-  first_failure = s.first_failure;
-}
-
-pub columns-are : (s : Held) {ss ns : List ℤ} {ms : List ℕ} → ss ≡ s.seconds → ns ≡ s.nanoseconds → ms ≡ s.microsteps → with_columns ss ns ms s ≡ s
-columns-are s a b c = rw (a, b, c) refl
-
--- the row w put over x
-pub put-over : (s : Held) (i : ℕ) (x w : Row) {ss ns ss' ns' : List ℤ} {ms ms' : List ℕ}
-    → ss ≡ (with_row s i x).seconds → ns ≡ (with_row s i x).nanoseconds → ms ≡ (with_row s i x).microsteps
-    → let u = with_row (with_columns ss ns ms (with_row s i x)) i w in ss' ≡ u.seconds → ns' ≡ u.nanoseconds → ms' ≡ u.microsteps
-    → with_columns ss' ns' ms' u ≡ with_row (with_row s i x) i w
-put-over s i x w a b c d e f = columns-are _ d e f ∙ ap (λ (u : Held). with_row u i w) (columns-are (with_row s i x) a b c)
-
-undone : (s : Held) (i : ℕ) (x w : Row) → Sized s → i < 32 → w ≡ row_of s i → with_row (with_row s i x) i w ≡ s
+pub undone : (s : Held) (i : ℕ) (x w : Row) → Sized s → i < 32 → w ≡ row_of s i → with_row (with_row s i x) i w ≡ s
 undone s i x w z h q =
     let a = z.published in let b = z.acknowledged in let c = z.observed in let d = z.seconds in let e = z.nanoseconds in let f = z.microsteps in
     rw (
@@ -102,6 +68,30 @@ undone s i x w z h q =
       set-back-two (pos 0) s.nanoseconds i (32 + i) x.candidate.nanoseconds x.completed.nanoseconds (omega arith) (omega arith),
       set-back-two 0 s.microsteps i (32 + i) x.candidate.microstep x.completed.microstep (omega arith) (omega arith),
     ) refl
+
+-- ---- what is asked of the state whose row alone is stored is asked of the state between, and of the state after the own rule
+
+pub halfway-beside : (s : Held) (i : ℕ) (d : Decided) {t : Held} → t ≡ with_row s i d.parts.row → Beside (halfway s i d) t
+halfway-beside s i d e =
+    beside-along
+    (record { enclaves = refl; published = refl; acknowledged = refl; completion_observed = refl; seconds = refl; nanoseconds = refl; microsteps = refl; count = refl; grant_horizon = refl; lifecycle = refl })
+    (sym e)
+
+pub own-beside : (s : Held) (i : ℕ) (d : Decided) (k : Concluded) {t : Held} → t ≡ with_row s i d.parts.row → Beside (own_end s i d k) t
+own-beside s i d k e =
+    let b = halfway-beside s i d e in
+    record {
+      enclaves = b.enclaves;
+      published = b.published;
+      acknowledged = b.acknowledged;
+      completion_observed = b.completion_observed;
+      seconds = b.seconds;
+      nanoseconds = b.nanoseconds;
+      microsteps = b.microsteps;
+      count = b.count;
+      grant_horizon = b.grant_horizon;
+      lifecycle = b.lifecycle;
+    }
 
 -- ---- the end in the order of the stores
 
@@ -125,42 +115,70 @@ with_observation o s = record {
   first_failure = s.first_failure;
 }
 
+abbrev pub with_failure : Parts → Held → Held
+with_failure p s = record {
+  count = s.count;
+  enclaves = s.enclaves;
+  published = s.published;
+  observation = s.observation;
+  acknowledged = s.acknowledged;
+  completion_observed = s.completion_observed;
+  seconds = s.seconds;
+  nanoseconds = s.nanoseconds;
+  microsteps = s.microsteps;
+  coordination = s.coordination;
+  completion = s.completion;
+  gate = s.gate;
+  grant_horizon = s.grant_horizon;
+  failed = p.failed;
+  lifecycle = s.lifecycle;
+  first_failure = p.first_failure;
+}
+
+-- only an announcement drops
+undropped : (a : Said) → ((resume : Bool) → a ≡ Announcement resume → ⊥) → drops a ≡ false
+undropped (Word n) other = refl
+undropped (Announcement resume) other = absurd (other resume refl)
+undropped (Completing k) other = refl
+
 module _ (s : Held) (i : ℕ) (d : Decided) (k : Concluded) (a : Advanced) where
   -- before the observations and the gate
   abbrev pub stored_end : Held
   stored_end = with_completion a.completion (with_coordination k.coordination (rebuilt s i d.parts s.observation s.gate))
 
-  -- a message about completion leaves the rest alone
-  pub end-aside : k.coordination ≡ s.coordination → d.parts.failed ≡ s.failed → d.parts.first_failure ≡ s.first_failure
-      → with_completion a.completion (with_row s i d.parts.row) ≡ stored_end
-  end-aside c f n = rw (c, f, n) refl
+  module _ (r : Held) (row : r ≡ with_row s i d.parts.row) where
+    pub end-stored : with_failure d.parts (with_coordination k.coordination (with_completion a.completion r)) ≡ stored_end
+    end-stored = rw row refl
+
+    -- a message about completion leaves the rest alone
+    pub end-aside : k.coordination ≡ s.coordination → d.parts.failed ≡ s.failed → d.parts.first_failure ≡ s.first_failure
+        → with_completion a.completion r ≡ stored_end
+    end-aside c f n = rw (row, c, f, n) refl
 
   -- before the gate
   abbrev pub observed_end : Held
   observed_end = with_completion a.completion (with_coordination k.coordination (halfway s i d))
 
-  pub end-cleared : (t : Held) → t ≡ stored_end → (o : List ℕ) → o ≡ cleared s.count t.observation → d.forgets ≡ true → with_observation o t ≡ observed_end
-  end-cleared t q o h e = rw (h, q, e) refl
+  module _ (t : Held) where
+    pub end-cleared : t ≡ stored_end → (o : List ℕ) → o ≡ cleared s.count t.observation → d.forgets ≡ true → with_observation o t ≡ observed_end
+    end-cleared q o h e = rw (h, q, e) refl
 
-  pub end_kept : d.forgets ≡ false → stored_end ≡ observed_end
-  end_kept e = rw e refl
+    pub end_kept : t ≡ stored_end → d.forgets ≡ false → t ≡ observed_end
+    end_kept q e = rw (q, e) refl
 
-  pub end-dropped : (t : Held) → t ≡ observed_end → (g : Gate) → g ≡ dropped_of t.gate → k.drops ≡ true → with_gate g t ≡ whole_end s i d k a
-  end-dropped t q g h e = rw (h, q, e) refl
+    pub end-dropped : t ≡ observed_end → (g : Gate) → g ≡ dropped_of t.gate → (resume : Bool) → k.said ≡ Announcement resume → with_gate g t ≡ whole_end s i d k a
+    end-dropped q g h resume e = rw (h, q, e) refl
 
-  pub end-held : k.drops ≡ false → observed_end ≡ whole_end s i d k a
-  end-held e = rw e refl
-
-pub either : {A B C : Type 0} → (A → C) → (B → C) → A ⊎ B → C
-either f g (inl a) = f a
-either f g (inr b) = g b
+    pub end-held : t ≡ observed_end → ((resume : Bool) → k.said ≡ Announcement resume → ⊥) → t ≡ whole_end s i d k a
+    end-held q other = rw (q, undropped k.said other) refl
 
 -- ---- what is said, as the columns have it
 
-said-by : (s : Held) (p : Saying) (a : Advanced) → said_by s.enclaves s.seconds s.nanoseconds s.microsteps s.count p a ≡ sayings p s a
-said-by s Nothing a = refl
-said-by s Probes a = refl
-said-by s Completes a = refl
+said-by : (s t : Held) → t.enclaves ≡ s.enclaves → t.seconds ≡ s.seconds → t.nanoseconds ≡ s.nanoseconds → t.microsteps ≡ s.microsteps → t.count ≡ s.count
+    → (p : Saying) (g : ℕ) → sayings t p g ≡ sayings s p g
+said-by s t a b c d e Nothing g = refl
+said-by s t a b c d e (Probes f) g = rw (a, b, c, d, e) refl
+said-by s t a b c d e (Completes f) g = refl
 
 module _ (room : List ℕ) (m : SchedulerMessage) (s : Held) (i : ℕ) (n : Enters room m s i) where
   good : Good s
@@ -185,21 +203,19 @@ module _ (room : List ℕ) (m : SchedulerMessage) (s : Held) (i : ℕ) (n : Ente
 
   -- ---- the first half, as `own_step` promises it of the parts that were read
 
-  module _ (f : Flat) (flat : f ≡ flat_of m) (w : Row) (row : w ≡ row_of s i) (c : Coordination) (coordination : c ≡ s.coordination)
-      (k : Completion) (completion : k ≡ s.completion) (d : Decided) where
+  module _ (w : Row) (row : w ≡ row_of s i) (d : Decided) where
     abbrev pub read : Parts
-    read = record { row = w; coordination = c; completion = k; failed = s.failed; first_failure = s.first_failure }
+    read = record { row = w; coordination = s.coordination; completion = s.completion; failed = s.failed; first_failure = s.first_failure }
 
     read_is : read ≡ parts_of s i
-    read_is = rw (row, coordination, completion) refl
+    read_is = rw row refl
 
-    module _ (steps : (x : SchedulerMessage) (e : ℕ) → f ≡ flat_of x → Names (enclave_of x) e → T (all_proper (facts (call_of x)).tags) → Decides (own_step (call_of x)) e read d)
-        (keeps : (x : SchedulerMessage) → f ≡ flat_of x → T (all_proper (facts (call_of x)).tags) → T (neat_parts read) → T (neat_parts d.parts)) where
-      pub decides : Decides (own_step (call_of m)) (get_or s.enclaves i 0) (parts_of s i) d
-      decides = subst (λ (p : Parts). Decides (own_step (call_of m)) (get_or s.enclaves i 0) p d) read_is (steps m (get_or s.enclaves i 0) flat n.place.named proper)
+    pub decides : ((e : ℕ) → Names (enclave_of m) e → T (all_proper (facts (call_of m)).tags) → Decides (own_step (call_of m)) e read d)
+        → Decides (own_step (call_of m)) (get_or s.enclaves i 0) (parts_of s i) d
+    decides steps = subst (λ (p : Parts). Decides (own_step (call_of m)) (get_or s.enclaves i 0) p d) read_is (steps (get_or s.enclaves i 0) n.place.named proper)
 
-      pub neat : T (neat_parts d.parts)
-      neat = keeps m flat proper (subst (λ (p : Parts). T (neat_parts p)) (sym read_is) neat-own)
+    pub neat : (T (all_proper (facts (call_of m)).tags) → T (neat_parts read) → T (neat_parts d.parts)) → T (neat_parts d.parts)
+    neat keeps = keeps proper (subst (λ (p : Parts). T (neat_parts p)) (sym read_is) neat-own)
 
   -- ---- the state between, and the state after the own rule
 
@@ -212,51 +228,45 @@ module _ (room : List ℕ) (m : SchedulerMessage) (s : Held) (i : ℕ) (n : Ente
       pub own-holds : T (represents (own_end s i d k))
       own-holds = (own-good s m i d k good n.place (is-so n.proper) decides neat concludes).neat
 
-      module _ (a : Advanced) (advances : Advances (own_end s i d k) a) (r : Called) where
-        spent : ((facts (call_of m)).message && is_spent (own_step (call_of m) (view s)).state) ≡ a.spent
-        spent = spent-is s m i d k good n.place (is-so n.proper) decides neat concludes a advances
+      pub ends-9 : (e : Refusal) → Spends (own_end s i d k) e → (x w : Row) → w ≡ row_of s i → (t : Held) → t ≡ with_row (with_row s i x) i w
+          → (r : Called) → r ≡ replied t (Some e) None 0 → Ends (lent (length room) (call_of m)) s r room room
+      ends-9 e spends x w row t p r q =
+          out-spent room m s n.stands n.wide n.proper i n.place (spent-is s m i d k good n.place (is-so n.proper) decides neat concludes true spends.spent)
+          t refl (p ∙ undone s i x w good.sized (let z = n.stands.few in let y = within in omega arith) row)
+          (q ∙ ap (λ (x : Refusal). replied t (Some x) None 0) spends.refusal)
 
-        pub ends-9 : a.spent ≡ true → (x w : Row) → w ≡ row_of s i → (t : Held) → t ≡ with_row (with_row s i x) i w → r ≡ replied t (Some GenerationSpent) None 0
-            → Ends (lent (length room) (call_of m)) s r room room
-        ends-9 h x w row t p q =
-            out-spent room m s n.stands n.wide n.proper i n.place spent t h
-            (p ∙ undone s i x w good.sized (let z = n.stands.few in let y = within in omega arith) row) q
+      module _ (a : Advanced) (steps : Steps (own_end s i d k) a) where
+        abbrev said : List CoordinationAction
+        said = actions_of (get_or s.enclaves i 0) k.said k.coordination
 
-        ends_so : a.spent ≡ false → (room₁ : List ℕ) (total : ℕ)
-            → Adds (actions_of (get_or s.enclaves i 0) k.said k.coordination ++ said_by s.enclaves (halfway s i d).seconds (halfway s i d).nanoseconds (halfway s i d).microsteps s.count a.saying a) room 0 room₁ total
-            → r ≡ replied (whole_end s i d k a) None None total → Ends (lent (length room) (call_of m)) s r room room₁
-        ends_so free room₁ total adds q =
-            ends-taken (lent (length room) (call_of m)) s room (is-silent m (view s)) n.stands unrefused (whole_end s i d k a) (said ++ later)
-            (end-beyond s m i d k good n.place (is-so n.proper) decides neat concludes a advances)
-            (end-neat s m i d k good n.place (is-so n.proper) decides neat concludes a advances) step written.number written.bytes q
+        abbrev later : Held → List CoordinationAction
+        later t = sayings t a.saying a.completion.completion_generation
+
+        -- whatever the state is called that was stored before the records were written, and the one handed back
+        pub ends-0 : (u : Held) → u ≡ observed_end s i d k a → (t : Held) → t ≡ whole_end s i d k a → (room₁ : List ℕ) (total : ℕ)
+            → Adds (actions_of (get_or u.enclaves i 0) k.said k.coordination ++ later u) room 0 room₁ total
+            → (r : Called) → r ≡ replied t None None total → Ends (lent (length room) (call_of m)) s r room room₁
+        ends-0 u y t z room₁ total adds r q =
+            ends-taken (lent (length room) (call_of m)) s room (is-silent m (view s)) n.stands unrefused (whole_end s i d k a) (said ++ later (own_end s i d k))
+            (end-beyond s m i d k good n.place (is-so n.proper) decides neat concludes a steps)
+            (end-neat s m i d k good n.place (is-so n.proper) decides neat concludes a steps) step written.number written.bytes
+            (q ∙ ap (λ (x : Held). replied x None None total) z)
           where
             unrefused : 0 ≡ refusal_of (lent (length room) (call_of m)) s
-            unrefused = open-call room m s n.stands n.wide n.proper i n.place spent free
+            unrefused =
+                open-call room m s n.stands n.wide n.proper i n.place
+                (spent-is s m i d k good n.place (is-so n.proper) decides neat concludes false steps.unspent) refl
 
-            said : List CoordinationAction
-            said = actions_of (get_or s.enclaves i 0) k.said k.coordination
+            step : take_step (call_of m) (view s) ≡ record { state = view (whole_end s i d k a); actions = said ++ later (own_end s i d k) }
+            step = step_is s m i d k good n.place (is-so n.proper) decides neat concludes a steps
 
-            later : List CoordinationAction
-            later = sayings a.saying (own_end s i d k) a
-
-            step : take_step (call_of m) (view s) ≡ record { state = view (whole_end s i d k a); actions = said ++ later }
-            step = step_is s m i d k good n.place (is-so n.proper) decides neat concludes a advances free
-
-            fits : 56 * length (said ++ later) ≤ 56 * (s.count + 2)
+            fits : 56 * length (said ++ later (own_end s i d k)) ≤ 56 * (s.count + 2)
             fits =
                 subst (λ (o : Step). 56 * length o.actions ≤ 56 * (s.count + 2)) step
                 (actions-fit (lent (length room) (call_of m)) s n.stands.passing unrefused)
 
-            written : Written room (said ++ later) room₁ total
-            written =
-                subst (λ (l : List CoordinationAction). Adds (said ++ l) room 0 room₁ total) (said-by (own_end s i d k) a.saying a) adds room [] (none_written room)
-                (let z = fits in let y = n.wide in omega arith)
+            added : Adds (said ++ later (own_end s i d k)) room 0 room₁ total
+            added = rw (y, said-by (own_end s i d k) (observed_end s i d k a) refl refl refl refl refl a.saying a.completion.completion_generation) at adds
 
-        -- whatever the state is called that was stored before the records were written, and the one handed back
-        pub ends-0 : a.spent ≡ false → (u : Held) → u ≡ observed_end s i d k a → (t : Held) → t ≡ whole_end s i d k a → (room₁ : List ℕ) (total : ℕ)
-            → Adds (actions_of (get_or u.enclaves i 0) k.said k.coordination ++ said_by u.enclaves u.seconds u.nanoseconds u.microsteps s.count a.saying a) room 0 room₁ total
-            → r ≡ replied t None None total → Ends (lent (length room) (call_of m)) s r room room₁
-        ends-0 free u y t z room₁ total adds q =
-            ends_so free room₁ total
-            (subst (λ (x : Held). Adds (actions_of (get_or x.enclaves i 0) k.said k.coordination ++ said_by x.enclaves x.seconds x.nanoseconds x.microsteps s.count a.saying a) room 0 room₁ total) y adds)
-            (q ∙ ap (λ (x : Held). replied x None None total) z)
+            written : Written room (said ++ later (own_end s i d k)) room₁ total
+            written = added room [] (none_written room) (let z = fits in let y = n.wide in omega arith)

@@ -1,7 +1,7 @@
 -- `federate::handle_scheduler` meets its promise: 27, 8, 7 and 3 first; then the own rule's first half is decided and stored, its second half concluded, the
 -- completion step taken; 9 puts the enclave's cells back, and else the records of what was said stand in the room. Assumes nothing.
-use mathlib.Core.Path.{◌≡◌, refl, sym, ap, ◌∙◌}
-use mathlib.Core.Bool.{true, ◌&&◌}
+use mathlib.Core.Path.{◌≡◌, refl, sym, ap, ◌∙◌, subst}
+use mathlib.Core.Bool.{true}
 use Prim.Native.Nat.{ℕ, ◌+◌, ◌*◌, ◌≤◌, ◌<◌}
 use native.Mathlib.Omega.{arith}
 use lib.Dec.{T, ltb}
@@ -9,43 +9,36 @@ use lib.ListN.{length, get_or}
 use borrow.Author.Rules.{rules}
 use borrow.Author.Tests.{ltb-true}
 use Rattle.tags.specs.Tags.{proper_if_present}
-use Rattle.rules.specs.Calls.{own_step, is_sound}
+use Rattle.rules.specs.Calls.{own_step}
 use Rattle.state.specs.declared.FederateCoordinationState.{FederateCoordinationState as Held}
+use Rattle.state.specs.View.{view}
 use Rattle.state.specs.declared.Decided.{Decided}
-use Rattle.state.specs.View.{view, represents}
-use Rattle.state.specs.Parts.{Sized, parts_of, with_completion}
+use Rattle.state.specs.Parts.{Sized, parts_of, with_row}
 use Rattle.state.specs.Decides.{Decides, halfway, neat_parts}
 use Rattle.state.proofs.Rows.{apart}
 use Rattle.calls.specs.Called.{lent, room_first}
-use Rattle.calls.proofs.Standing.{is-so, sound-by-leaves, Standing, standing}
+use Rattle.calls.proofs.Standing.{is-so, Standing, standing}
 use Rattle.calls.proofs.Ends.{First, ends-27, ends-first, first-shut, open-three}
 use Rattle.completion.specs.declared.Advanced.{Advanced}
 use Rattle.completion.specs.Advance.{Advances}
 use Rattle.dispatch.specs.declared.Concluded.{Concluded}
-use Rattle.dispatch.specs.declared.Flat.{Flat}
 use Rattle.dispatch.specs.Messages.{call_of, enclave_of, Concludes}
 use Rattle.federate.specs.Places.{place_of}
 use Rattle.federate.proofs.Message.{takes-room, is-silent, message-proper, sits}
 use Rattle.federate.proofs.Scheduler.{own_end, whole_end}
 use Rattle.federate.proofs.Refusing.{known_is}
-use Rattle.federate.proofs.Taking.{Enters, stored_end, observed_end, end-aside, end-cleared, end_kept, end-dropped, end-held, columns-are, put-over, with_row, decides, neat, halfway-holds, own-holds, ends-9, ends-0}
+use Rattle.federate.proofs.Taking.{Enters, observed_end, stored_end, end-stored, end-aside, end-cleared, end_kept, end-dropped, end-held, halfway-beside, own-beside, decides, neat, halfway-holds, own-holds, ends-9, ends-0}
 use Rattle.federate.proofs.handle_scheduler.Goals as goal
-use Rattle.federate.proofs.handle_scheduler.Goals.{After-is_sound_with, After-is_open, After-room_first-refusal, After-advance_completion-advanced, Joined-concluded}
-use Rattle.federate.proofs.handle_scheduler.Goals.{then-not-is_about_completion, else-not-is_about_completion, then-decided, else-decided, then-concluded, else-concluded}
+use Rattle.federate.proofs.handle_scheduler.Goals.{After-is_sound, After-is_open, After-room_first-refusal, After-advance_completion, Joined-decided}
+use Rattle.federate.proofs.handle_scheduler.Goals.{then-not-is_about_completion, else-not-is_about_completion, then-decided, else-decided, in-Announcement, in_default}
 
 -- ---- 27
 
-sized : (c : After-is_sound_with) → Sized c.args.state
+sized : (c : After-is_sound) → Sized c.args.state
 sized c = record { enclaves = search rules; published = search rules; observation = search rules; acknowledged = search rules; observed = search rules; seconds = search rules; nanoseconds = search rules; microsteps = search rules }
 
-sound-is : (c : After-is_sound_with) → c.is_sound_with.result ≡ (represents c.args.state && is_sound (view c.args.state))
-sound-is c =
-    sound-by-leaves c.args.state c.flags_are_sound.ensures c.publication_is_sound.ensures c.are_cells.ensures
-    c.inputs_are_sound.ensures c.all_hold-both.ensures c.are_cells-2.ensures c.acquisition_is_sound.ensures
-    c.rest_is_sound.ensures c.all_hold-small.ensures c.is_sound_with.ensures
-
-stands : (c : After-is_sound_with) → c.is_sound_with.result ≡ true → Standing c.args.state
-stands c h = standing c.args.state (sized c) (sound-is c) h
+stands : (c : After-is_sound) → c.is_sound.result ≡ true → Standing c.args.state
+stands c h = standing c.args.state (sized c) c.is_sound.ensures h
 
 -- ---- 8, 7 and 3
 
@@ -54,13 +47,10 @@ first : (c : After-room_first-refusal) → Standing c.args.state
     (ltb c.place_of-place.result c.args.state.count) c.room_first-refusal.result
 first c st =
     let a = c.args in
-    let flat = c.flat_of-flat.ensures in
     record {
       takes = takes-room a.message;
-      proper = c.proper_if_present-proper.ensures ∙ ap (λ (f : Flat). proper_if_present f.tag) flat ∙ sym (message-proper a.message);
-      known =
-          known_is a.message a.state st c.place_of-place.result
-          (c.place_of-place.ensures ∙ ap (λ (f : Flat). place_of f.enclave a.state.enclaves a.state.count) flat);
+      proper = c.proper_if_present-proper.ensures ∙ ap proper_if_present c.tag_of.ensures ∙ sym (message-proper a.message);
+      known = known_is a.message a.state st c.place_of-place.result (c.place_of-place.ensures ∙ ap (λ e. place_of e a.state.enclaves a.state.count) c.enclave_of.ensures);
       is = c.room_first-refusal.ensures ∙ ap (room_first (length a.room.now) a.state.count) c.tag_first.ensures;
     }
 
@@ -79,31 +69,26 @@ module _ (c : After-is_open) (st : Standing c.args.state) (free : c.is_open.resu
   enters : Enters c.args.room.now c.args.message c.args.state c.place_of-place.result
   enters =
       let a = c.args in
-      let flat = c.flat_of-flat.ensures in
       record {
         stands = st;
         wide = none.0;
-        proper = sym (c.proper_if_present-proper.ensures ∙ ap (λ (f : Flat). proper_if_present f.tag) flat) ∙ none.1;
+        proper = sym (c.proper_if_present-proper.ensures ∙ ap proper_if_present c.tag_of.ensures) ∙ none.1;
         place =
             sits (enclave_of a.message) a.state c.place_of-place.result st.ascends
-            (c.place_of-place.ensures ∙ ap (λ (f : Flat). place_of f.enclave a.state.enclaves a.state.count) flat) seated;
+            (c.place_of-place.ensures ∙ ap (λ e. place_of e a.state.enclaves a.state.count) c.enclave_of.ensures) seated;
       }
 
 -- ---- the two halves and the completion step
 
-module _ (c : After-advance_completion-advanced) (n : Enters c.args.room.now c.args.message c.args.state c.place_of-place.result) where
+module _ (c : After-advance_completion) (n : Enters c.args.room.now c.args.message c.args.state c.place_of-place.result) where
   abbrev index : ℕ
   index = get_or c.args.state.enclaves c.place_of-place.result 0
 
   decides_at : Decides (own_step (call_of c.args.message)) index (parts_of c.args.state c.place_of-place.result) c.own_step-decided.result
-  decides_at =
-      decides _ _ _ _ n _ c.flat_of-flat.ensures _ c.row_at-row.ensures _ c.coordination_by_fields-held_coordination.ensures _
-      c.completion_by_fields-held_completion.ensures c.own_step-decided.result c.own_step-decided.ensures.step c.own_step-decided.ensures.neat
+  decides_at = decides _ _ _ _ n _ c.row_at-row.ensures c.own_step-decided.result c.own_step-decided.ensures.step
 
   neat-at : T (neat_parts c.own_step-decided.result.parts)
-  neat-at =
-      neat _ _ _ _ n _ c.flat_of-flat.ensures _ c.row_at-row.ensures _ c.coordination_by_fields-held_coordination.ensures _
-      c.completion_by_fields-held_completion.ensures c.own_step-decided.result c.own_step-decided.ensures.step c.own_step-decided.ensures.neat
+  neat-at = neat _ _ _ _ n _ c.row_at-row.ensures c.own_step-decided.result c.own_step-decided.ensures.neat
 
   -- the state between
   abbrev between : Held
@@ -112,126 +97,75 @@ module _ (c : After-advance_completion-advanced) (n : Enters c.args.room.now c.a
   concludes-at : Concludes between index c.own_step-decided.result.next c.conclude-concluded.result
   concludes-at =
       c.conclude-concluded.ensures.concludes between index (halfway-holds _ _ _ _ n c.own_step-decided.result neat-at)
-      (record {
-        published = refl;
-        seconds = sym c.put_seconds.ensures;
-        nanoseconds = sym c.put_nanoseconds.ensures;
-        microsteps = sym c.put_microsteps.ensures;
-        count = refl;
-        coordination = refl;
-        completion = refl;
-        horizon = sym c.tag_by_fields-held_horizon.ensures;
-        lifecycle = refl;
-      })
+      (halfway-beside c.args.state c.place_of-place.result c.own_step-decided.result c.put_row.ensures) refl refl
 
   -- the state after the own rule
   abbrev after : Held
   after = own_end c.args.state c.place_of-place.result c.own_step-decided.result c.conclude-concluded.result
 
-  advances-at : Advances after c.advance_completion-advanced.result
+  advances-at : Advances after c.advance_completion.result
   advances-at =
-      c.advance_completion-advanced.ensures after
+      c.advance_completion.ensures after
       (own-holds _ _ _ _ n c.own_step-decided.result neat-at decides_at c.conclude-concluded.result concludes-at)
-      (record {
-        published = refl;
-        acknowledged = refl;
-        observed = refl;
-        seconds = sym c.put_seconds.ensures;
-        nanoseconds = sym c.put_nanoseconds.ensures;
-        microsteps = sym c.put_microsteps.ensures;
-        count = refl;
-        phase = refl;
-        horizon = sym c.tag_by_fields-held_horizon.ensures;
-        completion = refl;
-      })
+      (own-beside c.args.state c.place_of-place.result c.own_step-decided.result c.conclude-concluded.result c.put_row.ensures) refl refl
 
 -- ---- the stores
 
-module _ (c : Joined-concluded) where
-  -- an end of the call
-  abbrev ended : (Held → ℕ → Decided → Concluded → Advanced → Held) → Held
-  ended end = end c.args.state c.place_of-place.result c.own_step-decided.result c.conclude-concluded.result c.advance_completion-advanced.result
+module _ (c : Joined-decided) where
+  abbrev s : Held
+  s = c.args.state
 
-  -- a message about completion left the rest alone
-  left_alone : c.is_about_completion.result ≡ true
-      → with_completion c.advance_completion-advanced.result.completion (with_row c.args.state c.place_of-place.result c.own_step-decided.result.parts.row)
-      ≡ ended stored_end
-  left_alone h =
-      let x = c.own_step-decided.ensures.aside (is-so (sym c.is_about_completion.ensures ∙ h)) in
-      let y = c.conclude-concluded.ensures.aside x.unannounced in
-      end-aside c.args.state c.place_of-place.result c.own_step-decided.result c.conclude-concluded.result c.advance_completion-advanced.result
-      (y.0 ∙ x.coordination ∙ c.coordination_by_fields-held_coordination.ensures) x.failed x.failure
+  abbrev i : ℕ
+  i = c.place_of-place.result
 
-  kept-so : c.if-not-is_about_completion.state ≡ ended stored_end
-  kept-so =
+  abbrev d : Decided
+  d = c.own_step-decided.result
+
+  abbrev k : Concluded
+  k = c.conclude-concluded.result
+
+  abbrev m : Advanced
+  m = c.in-Ok.advanced
+
+  stored-so : c.if-not-is_about_completion.state ≡ stored_end s i d k m
+  stored-so =
       elim c.if-not-is_about_completion.branch [
-        | then-not-is_about_completion w ↦
-            w.state-is ∙ columns-are (ended stored_end) c.put_seconds.ensures c.put_nanoseconds.ensures c.put_microsteps.ensures
+        | then-not-is_about_completion w ↦ w.state-is ∙ end-stored s i d k m _ c.put_row.ensures
         | else-not-is_about_completion w ↦
-            w.state-is
-            ∙ columns-are (with_completion c.advance_completion-advanced.result.completion (with_row c.args.state c.place_of-place.result c.own_step-decided.result.parts.row)) c.put_seconds.ensures c.put_nanoseconds.ensures c.put_microsteps.ensures
-            ∙ left_alone w.if-not-is_about_completion.false
+            let x = c.own_step-decided.ensures.aside (is-so (sym c.is_about_completion.ensures ∙ w.if-not-is_about_completion.false)) in
+            let y = c.conclude-concluded.ensures.aside x.unannounced in
+            w.state-is ∙ end-aside s i d k m _ c.put_row.ensures (y.0 ∙ x.coordination) x.failed x.failure
       ]
 
-  observed-so : c.if-decided.state ≡ ended observed_end
+  observed-so : c.if-decided.state ≡ observed_end s i d k m
   observed-so =
       elim c.if-decided.branch [
-        | then-decided w ↦
-            w.state-is
-            ∙ end-cleared c.args.state c.place_of-place.result c.own_step-decided.result c.conclude-concluded.result c.advance_completion-advanced.result
-            c.if-not-is_about_completion.state kept-so _ w.clear.ensures w.if-decided.true
-        | else-decided w ↦
-            w.state-is ∙ kept-so
-            ∙ end_kept c.args.state c.place_of-place.result c.own_step-decided.result c.conclude-concluded.result c.advance_completion-advanced.result
-            w.if-decided.false
-      ]
-
-  ended_so : c.if-concluded.state ≡ ended whole_end
-  ended_so =
-      elim c.if-concluded.branch [
-        | then-concluded w ↦
-            w.state-is
-            ∙ end-dropped c.args.state c.place_of-place.result c.own_step-decided.result c.conclude-concluded.result c.advance_completion-advanced.result
-            c.if-decided.state observed-so _ w.dropped-state.ensures w.if-concluded.true
-        | else-concluded w ↦
-            w.state-is ∙ observed-so
-            ∙ end-held c.args.state c.place_of-place.result c.own_step-decided.result c.conclude-concluded.result c.advance_completion-advanced.result
-            w.if-concluded.false
+        | then-decided w ↦ w.state-is ∙ end-cleared s i d k m _ stored-so _ w.clear.ensures w.if-decided.true
+        | else-decided w ↦ w.state-is ∙ end_kept s i d k m _ stored-so w.if-decided.false
       ]
 
 -- ---- the goals
 
-pub returns-then-not-is_sound_with : goal.returns-then-not-is_sound_with
-returns-then-not-is_sound_with c =
+pub returns-then-not-is_sound : goal.returns-then-not-is_sound
+returns-then-not-is_sound c =
     let a = c.args in
-    let e =
-    ends-27 (lent (length a.room.now) (call_of a.message)) a.state a.room.now (is-silent a.message (view a.state))
-    (sound-is (goal.at.returns-then-not-is_sound_with c).After-is_sound_with) (rw c.if-not-is_sound_with.true refl) c.with_reply.ensures in
+    let e = ends-27 (lent (length a.room.now) (call_of a.message)) a.state a.room.now (is-silent a.message (view a.state)) c.is_sound.ensures (rw c.if-not-is_sound.true refl) c.with_reply.ensures in
     record { promised = e.0; bytes = e.1 }
 
 pub place_of-place-requires : goal.place_of-place-requires
-place_of-place-requires c = let st = stands (goal.at.place_of-place-requires c).After-is_sound_with c.if-not-is_sound_with.false in (st.few, apart c.args.state st.ascends)
+place_of-place-requires c = let st = stands (goal.at.place_of-place-requires c).After-is_sound c.if-not-is_sound.false in (st.few, apart c.args.state st.ascends)
 
 pub is_open-requires : goal.is_open-requires
-is_open-requires c = (stands (goal.at.is_open-requires c).After-is_sound_with c.if-not-is_sound_with.false).few
+is_open-requires c = (stands (goal.at.is_open-requires c).After-is_sound c.if-not-is_sound.false).few
 
 pub room_first-refusal-requires : goal.room_first-refusal-requires
-room_first-refusal-requires c = (stands (goal.at.room_first-refusal-requires c).After-is_sound_with c.if-not-is_sound_with.false).few
-
-pub conclude-concluded-requires : goal.conclude-concluded-requires
-conclude-concluded-requires c = (stands (goal.at.conclude-concluded-requires c).After-is_sound_with c.if-not-is_sound_with.false).few
-
-pub advance_completion-advanced-requires : goal.advance_completion-advanced-requires
-advance_completion-advanced-requires c = (stands (goal.at.advance_completion-advanced-requires c).After-is_sound_with c.if-not-is_sound_with.false).few
-
-pub clear-requires : goal.clear-requires
-clear-requires c = (stands (goal.at.clear-requires c).After-is_sound_with c.if-not-is_sound_with.false).few
+room_first-refusal-requires c = (stands (goal.at.room_first-refusal-requires c).After-is_sound c.if-not-is_sound.false).few
 
 pub returns-then-not-is_open : goal.returns-then-not-is_open
 returns-then-not-is_open c =
     let a = c.args in
     let g = lent (length a.room.now) (call_of a.message) in
-    let st = stands (goal.at.returns-then-not-is_open c).After-is_sound_with c.if-not-is_sound_with.false in
+    let st = stands (goal.at.returns-then-not-is_open c).After-is_sound c.if-not-is_sound.false in
     let f = first (goal.at.returns-then-not-is_open c).After-room_first-refusal st in
     let e =
     ends-first g a.state f a.room.now (is-silent a.message (view a.state)) st.passing
@@ -239,69 +173,53 @@ returns-then-not-is_open c =
     record { promised = e.0; bytes = e.1 }
 
 pub row_at-row-requires : goal.row_at-row-requires
-row_at-row-requires c = near (goal.at.row_at-row-requires c).After-is_open (stands (goal.at.row_at-row-requires c).After-is_sound_with c.if-not-is_sound_with.false) c.if-not-is_open.false
+row_at-row-requires c = near (goal.at.row_at-row-requires c).After-is_open (stands (goal.at.row_at-row-requires c).After-is_sound c.if-not-is_sound.false) c.if-not-is_open.false
 
-pub bounds-state-place : goal.bounds-state-place
-bounds-state-place c = near (goal.at.bounds-state-place c).After-is_open (stands (goal.at.bounds-state-place c).After-is_sound_with c.if-not-is_sound_with.false) c.if-not-is_open.false
+pub put_row-requires : goal.put_row-requires
+put_row-requires c = near (goal.at.put_row-requires c).After-is_open (stands (goal.at.put_row-requires c).After-is_sound c.if-not-is_sound.false) c.if-not-is_open.false
 
-pub bounds-state-place-2 : goal.bounds-state-place-2
-bounds-state-place-2 c = near (goal.at.bounds-state-place-2 c).After-is_open (stands (goal.at.bounds-state-place-2 c).After-is_sound_with c.if-not-is_sound_with.false) c.if-not-is_open.false
+pub conclude-concluded-requires : goal.conclude-concluded-requires
+conclude-concluded-requires c = rw c.put_row.ensures (stands (goal.at.conclude-concluded-requires c).After-is_sound c.if-not-is_sound.false).few
 
-pub bounds-state-place-3 : goal.bounds-state-place-3
-bounds-state-place-3 c = near (goal.at.bounds-state-place-3 c).After-is_open (stands (goal.at.bounds-state-place-3 c).After-is_sound_with c.if-not-is_sound_with.false) c.if-not-is_open.false
+pub advance_completion-requires : goal.advance_completion-requires
+advance_completion-requires c = rw c.put_row.ensures (stands (goal.at.advance_completion-requires c).After-is_sound c.if-not-is_sound.false).few
 
-pub put_microsteps-requires : goal.put_microsteps-requires
-put_microsteps-requires c = near (goal.at.put_microsteps-requires c).After-is_open (stands (goal.at.put_microsteps-requires c).After-is_sound_with c.if-not-is_sound_with.false) c.if-not-is_open.false
+pub put_row-requires-in-Err : goal.put_row-requires-in-Err
+put_row-requires-in-Err c = near (goal.at.put_row-requires-in-Err c).After-is_open (stands (goal.at.put_row-requires-in-Err c).After-is_sound c.if-not-is_sound.false) c.if-not-is_open.false
 
-pub put_seconds-requires : goal.put_seconds-requires
-put_seconds-requires c = near (goal.at.put_seconds-requires c).After-is_open (stands (goal.at.put_seconds-requires c).After-is_sound_with c.if-not-is_sound_with.false) c.if-not-is_open.false
+pub clear-requires : goal.clear-requires
+clear-requires c = (stands (goal.at.clear-requires c).After-is_sound c.if-not-is_sound.false).few
 
-pub put_nanoseconds-requires : goal.put_nanoseconds-requires
-put_nanoseconds-requires c = near (goal.at.put_nanoseconds-requires c).After-is_open (stands (goal.at.put_nanoseconds-requires c).After-is_sound_with c.if-not-is_sound_with.false) c.if-not-is_open.false
-
-pub put_microsteps-requires-then-advanced : goal.put_microsteps-requires-then-advanced
-put_microsteps-requires-then-advanced c = near (goal.at.put_microsteps-requires-then-advanced c).After-is_open (stands (goal.at.put_microsteps-requires-then-advanced c).After-is_sound_with c.if-not-is_sound_with.false) c.if-not-is_open.false
-
-pub bounds-state-place-then-advanced : goal.bounds-state-place-then-advanced
-bounds-state-place-then-advanced c = near (goal.at.bounds-state-place-then-advanced c).After-is_open (stands (goal.at.bounds-state-place-then-advanced c).After-is_sound_with c.if-not-is_sound_with.false) c.if-not-is_open.false
-
-pub put_seconds-requires-then-advanced : goal.put_seconds-requires-then-advanced
-put_seconds-requires-then-advanced c = near (goal.at.put_seconds-requires-then-advanced c).After-is_open (stands (goal.at.put_seconds-requires-then-advanced c).After-is_sound_with c.if-not-is_sound_with.false) c.if-not-is_open.false
-
-pub put_nanoseconds-requires-then-advanced : goal.put_nanoseconds-requires-then-advanced
-put_nanoseconds-requires-then-advanced c = near (goal.at.put_nanoseconds-requires-then-advanced c).After-is_open (stands (goal.at.put_nanoseconds-requires-then-advanced c).After-is_sound_with c.if-not-is_sound_with.false) c.if-not-is_open.false
-
-pub bounds-state-place-then-advanced-2 : goal.bounds-state-place-then-advanced-2
-bounds-state-place-then-advanced-2 c = near (goal.at.bounds-state-place-then-advanced-2 c).After-is_open (stands (goal.at.bounds-state-place-then-advanced-2 c).After-is_sound_with c.if-not-is_sound_with.false) c.if-not-is_open.false
-
-pub bounds-state-place-then-advanced-3 : goal.bounds-state-place-then-advanced-3
-bounds-state-place-then-advanced-3 c = near (goal.at.bounds-state-place-then-advanced-3 c).After-is_open (stands (goal.at.bounds-state-place-then-advanced-3 c).After-is_sound_with c.if-not-is_sound_with.false) c.if-not-is_open.false
+pub returns-in-Err : goal.returns-in-Err
+returns-in-Err c =
+    let p = goal.at.returns-in-Err c in
+    let a = p.After-advance_completion in
+    let n = enters p.After-is_open (stands p.After-is_sound c.if-not-is_sound.false) c.if-not-is_open.false in
+    let e =
+    ends-9 _ _ _ _ n c.own_step-decided.result (neat-at a n) (decides_at a n) c.conclude-concluded.result (concludes-at a n) _
+    (subst (Advances (after a n)) c.in-Err.is (advances-at a n)) c.own_step-decided.result.parts.row _ c.row_at-row.ensures _
+    (c.put_row-in-Err.ensures ∙ ap (λ t. with_row t c.place_of-place.result c.row_at-row.result) c.put_row.ensures) _ c.with_reply-in-Err.ensures in
+    record { promised = e.0; bytes = e.1 }
 
 pub add_step-total-requires : goal.add_step-total-requires
-add_step-total-requires c = let st = (stands (goal.at.add_step-total-requires c).After-is_sound_with c.if-not-is_sound_with.false) in (st.few, near (goal.at.add_step-total-requires c).After-is_open st c.if-not-is_open.false)
-
-pub returns-then-advanced : goal.returns-then-advanced
-returns-then-advanced c =
-    let p = goal.at.returns-then-advanced c in
-    let a = p.After-advance_completion-advanced in
-    let n = enters p.After-is_open (stands p.After-is_sound_with c.if-not-is_sound_with.false) c.if-not-is_open.false in
-    let x = c.own_step-decided.result.parts.row in
-    let w = c.row_at-row.result in
-    let e =
-    ends-9 _ _ _ _ n c.own_step-decided.result (neat-at a n) (decides_at a n) c.conclude-concluded.result (concludes-at a n)
-    c.advance_completion-advanced.result (advances-at a n) _ c.if-advanced.true x w c.row_at-row.ensures _
-    (put-over c.args.state c.place_of-place.result x w c.put_seconds.ensures c.put_nanoseconds.ensures c.put_microsteps.ensures
-    c.put_seconds-then-advanced.ensures c.put_nanoseconds-then-advanced.ensures c.put_microsteps-then-advanced.ensures)
-    c.with_reply-then-advanced.ensures in
-    record { promised = e.0; bytes = e.1 }
+add_step-total-requires c =
+    let p = goal.at.add_step-total-requires c in
+    let st = stands p.After-is_sound c.if-not-is_sound.false in
+    (rw (observed-so p.Joined-decided) st.few, near p.After-is_open st c.if-not-is_open.false)
 
 pub returns : goal.returns
 returns c =
     let p = goal.at.returns c in
-    let a = p.After-advance_completion-advanced in
-    let n = enters p.After-is_open (stands p.After-is_sound_with c.if-not-is_sound_with.false) c.if-not-is_open.false in
+    let a = p.After-advance_completion in
+    let n = enters p.After-is_open (stands p.After-is_sound c.if-not-is_sound.false) c.if-not-is_open.false in
+    let so = observed-so p.Joined-decided in
+    let j = p.Joined-decided in
+    let end : c.match-concluded.state ≡ whole_end (s j) (i j) (d j) (k j) (m j) =
+    elim c.match-concluded.branch [
+      | in-Announcement w ↦ w.state-is ∙ end-dropped (s j) (i j) (d j) (k j) (m j) _ so _ w.dropped-state.ensures _ w.in-Announcement.is
+      | in_default w ↦ w.state-is ∙ end-held (s j) (i j) (d j) (k j) (m j) _ so w.in_default.not-Announcement
+    ] in
     let e =
-    ends-0 _ _ _ _ n c.own_step-decided.result (neat-at a n) (decides_at a n) c.conclude-concluded.result (concludes-at a n)
-    c.advance_completion-advanced.result (advances-at a n) _ c.if-advanced.false c.if-decided.state (observed-so p.Joined-concluded)
-    c.if-concluded.state (ended_so p.Joined-concluded) _ _ c.add_step-total.ensures c.with_reply-2.ensures in
+    ends-0 _ _ _ _ n c.own_step-decided.result (neat-at a n) (decides_at a n) c.conclude-concluded.result (concludes-at a n) _
+    (subst (Advances (after a n)) c.in-Ok.is (advances-at a n)) c.if-decided.state so c.match-concluded.state end _ _ c.add_step-total.ensures _ c.with_reply-2.ensures in
     record { promised = e.0; bytes = e.1 }
