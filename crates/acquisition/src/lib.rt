@@ -4,7 +4,7 @@
 #![tactic(auto)]
 
 ghost use Rattle.std.specs.Prelude.{◌≡◌, ◌&&◌, length};
-ghost use Rattle.tags.specs.Tags.{proper_if_present, is_present, is_at_or_below, same_optional};
+ghost use Rattle.tags.specs.Tags.{proper_if_present, is_present, is_at_or_below};
 ghost use Rattle.rules.specs.Model.{acquire, sent, progress};
 ghost use Rattle.rules.specs.Acquisition.{same_publication};
 ghost use Rattle.octets.specs.Runs.{put_at};
@@ -19,19 +19,15 @@ use records::{CoordinationAction, FederateAcquisition, FederatePublication, Refu
 use state::{Coordination, FederateCoordinationState};
 use tags::Tag;
 
-fn holds(cell: Tag, m: Option<Tag>) -> bool
-    ensures { result ≡ same_optional (optional_of cell) m }
-{
-    tags::same_optional(state::optional_of(cell), m)
-}
-
 fn is_pending(c: &Coordination, p: &FederatePublication) -> bool
     ensures { result ≡ same_publication (pending_of c.now) p.now.revision p.now.next_event p.now.grant_horizon }
 {
-    c.pending
-        && c.pending_revision == p.revision
-        && holds(c.pending_next_event, p.next_event)
-        && holds(c.pending_grant_horizon, p.grant_horizon)
+    let pending = FederatePublication {
+        revision: c.pending_revision,
+        next_event: state::optional_of(c.pending_next_event),
+        grant_horizon: state::optional_of(c.pending_grant_horizon),
+    };
+    c.pending && pending == *p
 }
 
 fn is_reached(horizon: Tag, next_event: Option<Tag>) -> bool

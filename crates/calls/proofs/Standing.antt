@@ -25,29 +25,6 @@ use Rattle.calls.specs.Called.{refusal_of, Promised, replied}
 use Rattle.calls.specs.declared.Called.{Called}
 use Rattle.calls.proofs.Refusals.{Passes, passes, refusal-27, refused, taken}
 
--- ---- the state held
-
--- a column's length as the owner of the state is told it
-abbrev Lasts : {A : Type 0} → List A → ℕ → Type 0
-Lasts {A} l n = length (map (λ (v : A). v) l) ≡ n
-
-lasting : {A : Type 0} (l : List A) (n : ℕ) → Lasts l n → length l ≡ n
-lasting l n e = sym (length-map l (λ v. v)) ∙ e
-
--- its columns are of their lengths, by what owning it tells of each
-pub sized-by : (s : Held) → Lasts s.enclaves 32 → Lasts s.published 32 → Lasts s.observation 32 → Lasts s.acknowledged 32
-    → Lasts s.completion_observed 32 → Lasts s.seconds 96 → Lasts s.nanoseconds 96 → Lasts s.microsteps 96 → Sized s
-sized-by s a b c d e f g h = record {
-  enclaves = lasting s.enclaves 32 a;
-  published = lasting s.published 32 b;
-  observation = lasting s.observation 32 c;
-  acknowledged = lasting s.acknowledged 32 d;
-  observed = lasting s.completion_observed 32 e;
-  seconds = lasting s.seconds 96 f;
-  nanoseconds = lasting s.nanoseconds 96 g;
-  microsteps = lasting s.microsteps 96 h;
-}
-
 -- ---- a state that passes 27
 
 -- a test's answer as a fact

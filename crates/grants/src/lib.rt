@@ -10,7 +10,7 @@ ghost use Rattle.state.specs.Cells.{optional_of, stored_of};
 ghost use Rattle.state.specs.Decides.{Good};
 ghost use Rattle.grants.specs.Acquire.{is_stale, storing, brings_nothing, grantable_at, grants_of, Unpublished, Acquires};
 
-use records::{CoordinationAction, FederateAcquisition};
+use records::{CoordinationAction, CoordinationPhase, FederateAcquisition};
 use state::{Coordination, FederateCoordinationState, Gate};
 use tags::Tag;
 
@@ -54,7 +54,8 @@ fn stored(gate: Gate, revision: u64, tag: Tag) -> Gate
 fn is_outdated(coordination: &Coordination, revision: u64) -> bool
     ensures { result ≡ is_stale revision coordination.now }
 {
-    coordination.phase == 6 || revision != coordination.revision
+    coordination.phase == u8::from(CoordinationPhase::Stopped)
+        || revision != coordination.revision
 }
 
 // "If no publication is pending, and there is no horizon or the tag is not above it: nothing more."
