@@ -1,5 +1,6 @@
 -- The rules that change the coordination alone, in a state that holds one of document 01: each test of the code is the rule's, the phase and the policy
 -- being numbers of a case, and what the code sets is what the rule sets, field by field. Assumes nothing.
+use Rattle.std.specs.Prelude.{None, Some}
 use mathlib.Core.Path.{◌≡◌, refl, sym, ap, ◌∙◌}
 use mathlib.Core.Bool.{Bool, true, false, not, ◌&&◌}
 use Prim.Native.Nat.{ℕ, ◌≤◌}
@@ -17,6 +18,7 @@ use Rattle.state.specs.Cells.{absent, number_if}
 use Rattle.state.specs.View.{view, represents, neat_coordination}
 use Rattle.state.specs.Parts.{without_pending}
 use Rattle.state.proofs.Neat.{coordination-parts, coordination-whole, neat-coordination, neat-without-pending, no-publication, phase-bound, policy-bound}
+use Rattle.state.specs.declared.Notice.TheVariants.{Probe as AsProbe, Park as AsPark, Recheck as AsRecheck, Stop as AsStop}
 use Rattle.observation.specs.declared.Moved.{Moved}
 use Rattle.observation.specs.Moves.{Moves, in_phase}
 use Rattle.state.proofs.Round.{phase-number}
@@ -66,39 +68,39 @@ module _ (s : Held) (h : T (represents s)) (c : Coordination) (e : s.coordinatio
   given : (rule : State → Step) (f : Coordination → Moved) → d ≡ f c → Moves rule s (f s.coordination) → Moves rule s d
   given rule f g m = rw (g, ← e) m
 
-  pub stop-stopped : d ≡ record { coordination = c; says = 0 } → c.phase ≡ 6 → Moves stop_of s d
+  pub stop-stopped : d ≡ record { coordination = c; says = None } → c.phase ≡ 6 → Moves stop_of s d
   unfolding stop_of
   stop-stopped g p =
       let t = phase-is s h Stopped ∙ eq-eqb _ 6 (ap (λ x. x.phase) e ∙ p) in
-      given stop_of (λ x. record { coordination = x; says = 0 }) g (record { step = rw t refl; neat = neat-coordination s h })
+      given stop_of (λ x. record { coordination = x; says = None }) g (record { step = rw t refl; neat = neat-coordination s h })
 
-  pub stop-running : d ≡ record { coordination = without_pending 6 c; says = 10 } → (c.phase ≡ 6 → ⊥) → Moves stop_of s d
+  pub stop-running : d ≡ record { coordination = without_pending 6 c; says = Some AsStop } → (c.phase ≡ 6 → ⊥) → Moves stop_of s d
   unfolding stop_of
   stop-running g p =
       let t = phase-is s h Stopped ∙ ne_eqb _ 6 (λ q. p (sym (ap (λ x. x.phase) e) ∙ q)) in
-      given stop_of (λ x. record { coordination = without_pending 6 x; says = 10 }) g
+      given stop_of (λ x. record { coordination = without_pending 6 x; says = Some AsStop }) g
       (record { step = rw t refl; neat = neat-without-pending s.coordination 6 (omega arith) (neat-coordination s h) })
 
-  pub agreed-probed : d ≡ record { coordination = in_phase 2 c; says = 7 } → Moves (agreed Probed) s d
+  pub agreed-probed : d ≡ record { coordination = in_phase 2 c; says = Some AsPark } → Moves (agreed Probed) s d
   unfolding agreed
   agreed-probed g =
-      given (agreed Probed) (λ x. record { coordination = in_phase 2 x; says = 7 }) g
+      given (agreed Probed) (λ x. record { coordination = in_phase 2 x; says = Some AsPark }) g
       (record { step = refl; neat = neat-in-phase s.coordination 2 (omega arith) (neat-coordination s h) })
 
-  pub agreed-parked : d ≡ record { coordination = in_phase 3 c; says = 8 } → Moves (agreed HasParked) s d
+  pub agreed-parked : d ≡ record { coordination = in_phase 3 c; says = Some AsRecheck } → Moves (agreed HasParked) s d
   unfolding agreed
   agreed-parked g =
-      given (agreed HasParked) (λ x. record { coordination = in_phase 3 x; says = 8 }) g
+      given (agreed HasParked) (λ x. record { coordination = in_phase 3 x; says = Some AsRecheck }) g
       (record { step = refl; neat = neat-in-phase s.coordination 3 (omega arith) (neat-coordination s h) })
 
   module _ (l : ℕ) (k : s.lifecycle ≡ l) (b : Bool) (a : b ≡ (eqb l 2 && not (is_number (number_if c.authorized c.idle_authorization) c.revision))) where
     lacks-given : lacks_authorization (view s) ≡ b
     lacks-given = rw (a, ← k, ← e) (lacks-is s h)
 
-    pub agreed-awaits : d ≡ record { coordination = in_phase 5 c; says = 0 } → b ≡ true → Moves (agreed Rechecked) s d
+    pub agreed-awaits : d ≡ record { coordination = in_phase 5 c; says = None } → b ≡ true → Moves (agreed Rechecked) s d
     unfolding agreed
     agreed-awaits g t =
-        given (agreed Rechecked) (λ x. record { coordination = in_phase 5 x; says = 0 }) g
+        given (agreed Rechecked) (λ x. record { coordination = in_phase 5 x; says = None }) g
         (record { step = rw (lacks-given ∙ t) refl; neat = neat-in-phase s.coordination 5 (omega arith) (neat-coordination s h) })
 
     pub agreed-stops : Moves stop_of s d → b ≡ false → Moves (agreed Rechecked) s d
@@ -109,12 +111,12 @@ module _ (s : Held) (h : T (represents s)) (c : Coordination) (e : s.coordinatio
     awaits_given : awaits r (view s) ≡ b
     awaits_given = rw (a, ← e) (awaits-is s h r)
 
-    pub idle-quiet : d ≡ record { coordination = c; says = 0 } → b ≡ false → Moves (idle_confirmation_of r) s d
+    pub idle-quiet : d ≡ record { coordination = c; says = None } → b ≡ false → Moves (idle_confirmation_of r) s d
     unfolding idle_confirmation_of
     idle-quiet g t =
-        given (idle_confirmation_of r) (λ x. record { coordination = x; says = 0 }) g (record { step = rw (awaits_given ∙ t) refl; neat = neat-coordination s h })
+        given (idle_confirmation_of r) (λ x. record { coordination = x; says = None }) g (record { step = rw (awaits_given ∙ t) refl; neat = neat-coordination s h })
 
-    pub idle-probes : (n : ℕ) → n ≡ next_revision c.revision → d ≡ record { coordination = probing n; says = 6 } → b ≡ true
+    pub idle-probes : (n : ℕ) → n ≡ next_revision c.revision → d ≡ record { coordination = probing n; says = Some AsProbe } → b ≡ true
         → Moves (idle_confirmation_of r) s d
     unfolding idle_confirmation_of
     idle-probes n q g t =

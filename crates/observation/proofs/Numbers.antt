@@ -28,3 +28,8 @@ coordinated-numbered zero h = refl
 coordinated-numbered (suc zero) h = refl
 coordinated-numbered (suc (suc zero)) h = refl
 coordinated-numbered (suc (suc (suc n))) h = absurd (omega arith)
+
+pub observation-bound : (o : Observation) → observation_number o ≤ 2
+observation-bound Probed = omega arith
+observation-bound HasParked = omega arith
+observation-bound Rechecked = omega arith

@@ -3,11 +3,13 @@
 use mathlib.Core.Path.{◌≡◌, refl, sym, ap, ◌∙◌}
 use mathlib.Core.Bool.{Bool, true, false, not, cond, ◌&&◌}
 use mathlib.Core.List.{List}
-use Prim.Native.Nat.{ℕ, ◌+◌, ◌≤◌, ◌<◌}
+use Prim.Native.Nat.{ℕ, zero, suc, ◌+◌, ◌≤◌, ◌<◌}
 use native.Mathlib.Omega.{arith}
 use lib.Dec.{T, eqb}
-use lib.ListN.{get_or, set}
-use lib.Seq.{get_or-set_other}
+use lib.ListN.{length, get_or, set, take, drop}
+use lib.Seq.{get_or-set_other, drop-cons}
+use native.Mathlib.Numerals.{add-one}
+use Rattle.std.specs.List.{list_all}
 use borrow.Author.Tests.{eqb-true, eqb-false}
 use Rattle.records.specs.Numbers.{observation_number}
 use Rattle.rules.specs.Model.{Stopped, AwaitingIdleConfirmation, Observation, Observed, Verdict, Ignored, observe}
@@ -26,30 +28,12 @@ use Rattle.state.proofs.Neat.{NeatPlace, place-parts, place-whole, neat-parts, r
 use Rattle.state.proofs.Round.{observation-cell}
 use Rattle.state.proofs.Seats.{any-seated}
 use Rattle.observation.specs.Moves.{unheard_by}
-use Rattle.verdicts.proofs.Table.{observation-bound}
-use Rattle.observation.proofs.Numbers.{observed-cell}
+use Rattle.observation.proofs.Numbers.{observed-cell, observation-bound}
 use Rattle.observation.proofs.Deciding.{phase-is}
 
 -- the state with these observations
 abbrev pub with_observations : List ℕ → Held → Held
-with_observations o s = record {
-  count = s.count;
-  enclaves = s.enclaves;
-  published = s.published;
-  observation = o;
-  acknowledged = s.acknowledged;
-  completion_observed = s.completion_observed;
-  seconds = s.seconds;
-  nanoseconds = s.nanoseconds;
-  microsteps = s.microsteps;
-  coordination = s.coordination;
-  completion = s.completion;
-  gate = s.gate;
-  grant_horizon = s.grant_horizon;
-  failed = s.failed;
-  first_failure = s.first_failure;
-  lifecycle = s.lifecycle;
-}
+with_observations o s = record s { observation = o }
 
 neat-with-observations : (s : Held) (o : List ℕ) → T (represents s) → ((j : ℕ) → j < s.count → get_or o j 0 ≤ 3) → T (represents (with_observations o s))
 neat-with-observations s o h k =
@@ -69,13 +53,20 @@ neat-with-observations s o h k =
 
 -- ---- the walks
 
+all-listed : (p : ℕ → Bool) (xs : List ℕ) (k n : ℕ) → k + n ≤ length xs → all_of (λ j. p (get_or xs j 0)) k n ≡ list_all p (take n (drop k xs))
+unfolding all_of
+all-listed p xs k zero h = refl
+all-listed p xs k (suc n) h = rw (drop-cons xs k 0 (omega arith), ← add-one k) (ap (λ b. p (get_or xs k 0) && b) (all-listed p xs (k + 1) n (omega arith)))
+
 -- the cell k is this observation's
 module _ (s : Held) (h : T (represents s)) (o : Observation) (k : ℕ) (g : k ≡ observation_number o + 1) where
   cell-is : (j : ℕ) → j < s.count → has_observed o (cell_means (get_or s.observation j 0)) ≡ eqb (get_or s.observation j 0) k
   cell-is j l = rw g (observed-cell o (get_or s.observation j 0) (place-parts s j ((neat-parts s h).places j l)).observation)
 
-  pub all-is : all_observed o (view s) ≡ all_of (λ j. eqb (get_or s.observation j 0) k) 0 s.count
-  all-is = all-rows s (λ p. has_observed o p.observation) ∙ all_same _ _ 0 s.count (λ j l m. cell-is j (omega arith))
+  pub all-is : s.count ≤ length s.observation → all_observed o (view s) ≡ list_all (λ x. eqb x k) (take s.count s.observation)
+  all-is few =
+      all-rows s (λ p. has_observed o p.observation) ∙ all_same _ _ 0 s.count (λ j l m. cell-is j (omega arith)) ∙
+      all-listed (λ x. eqb x k) s.observation 0 s.count (omega arith)
 
   pub already-is : (e i : ℕ) → Seated s e i → observed_already e o (view s) ≡ eqb (get_or s.observation i 0) k
   already-is e i d = any-seated s e i d (λ p. has_observed o p.observation) ∙ cell-is i d.within

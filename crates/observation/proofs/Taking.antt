@@ -2,80 +2,50 @@
 -- stored. Assumes nothing.
 use Rattle.std.specs.Prelude.{None, Option, Some}
 use mathlib.Core.Path.{◌≡◌, refl, sym, ap, ◌∙◌}
-use mathlib.Core.Bool.{Bool, true, false, cond, ◌&&◌}
-use mathlib.Core.Logic.{◌⊎◌, ⊎_elim}
-use mathlib.Core.List.{List, [], ◌∷◌}
-use Prim.Native.Nat.{ℕ, ◌+◌, ◌*◌, ◌≤◌, ◌<◌}
+use mathlib.Core.Bool.{Bool, true, false, ◌&&◌, cond}
+use mathlib.Core.List.{List, []}
+use Prim.Native.Nat.{ℕ, ◌+◌, ◌*◌, ◌≤◌}
 use native.Mathlib.Omega.{arith}
 use lib.Dec.{T, eqb, ltb}
-use lib.ListN.{length, get_or, set, length-set}
-use borrow.Author.Tests.{eq-eqb, ne_eqb, le-ltb, ltb-true, ltb-false}
-use Rattle.records.specs.Numbers.{observation_number, refusal_number}
+use lib.ListN.{length, get_or, set, take, length-set}
+use Rattle.std.specs.List.{list_all}
+use Rattle.std.specs.Option.{is_some}
+use borrow.Author.Tests.{eq-eqb, ne_eqb, ltb-true, ltb-false}
+use Rattle.records.specs.Numbers.{observation_number}
 use Rattle.records.specs.declared.Refusal.{Refusal}
-use Rattle.records.specs.declared.Refusal.TheVariants.{UnsoundState, InvalidObservationTransition}
+use Rattle.records.specs.declared.Refusal.TheVariants.{UnsoundState, RoomTooSmall, UnknownEnclave, InvalidObservationTransition}
 use Rattle.octets.specs.Runs.{put_at}
 use Rattle.actions.specs.Record.{records_of}
-use Rattle.rules.specs.Model.{CoordinationAction, Probe, Park, Recheck, Resume, Stop, Abort, State, Step, Call, Given, observe, idle, stop, Observation, Verdict, Counts, Ignored, Refused}
+use Rattle.rules.specs.Model.{State, Step, Call, observe, idle, stop, Observation, Verdict, Counts, Ignored, Refused}
 use Rattle.rules.specs.Stop.{stop_of}
 use Rattle.rules.specs.Observation.{is_refused, all_observed, observed_already, agreed, tally, observe_by, observation_of, idle_confirmation_of}
-use Rattle.rules.specs.Calls.{facts, plain as bare, own_step, take_step, is_sound, knows_all}
+use Rattle.rules.specs.Calls.{facts, own_step, take_step, is_sound}
 use Rattle.state.specs.declared.FederateCoordinationState.{FederateCoordinationState as Held}
 use Rattle.state.specs.declared.Coordination.{Coordination}
-use Rattle.state.specs.Walk.{all_of, place_from}
 use Rattle.state.specs.View.{view, represents}
-use Rattle.state.specs.Parts.{Seated, cleared, with_coordination}
+use Rattle.state.specs.Parts.{Seated, place_in, cleared, with_coordination}
+use Rattle.state.specs.declared.Notice.{Notice}
 use Rattle.state.specs.Decides.{said_of}
-use Rattle.state.proofs.Rows.{seated, known, unknown-knows}
-use Rattle.state.proofs.Neat.{count-bounds, neat-with-coordination}
+use Rattle.state.proofs.Rows.{known, nobody}
+use Rattle.state.proofs.Neat.{neat-with-coordination}
 use Rattle.state.proofs.Put.{Beyond, Past, plain, past-trans, past-set, past-cleared, beyond-refl}
-use Rattle.calls.specs.Called.{lent, refusal_of, replied}
+use Rattle.calls.specs.Called.{lent, refusal_of, replied, room_first}
 use Rattle.calls.specs.declared.Called.{Called}
-use Rattle.calls.proofs.Refusals.{passes, refusal-27, refusal-4, refusal-0}
-use Rattle.calls.proofs.Standing.{Standing, is-so}
-use Rattle.calls.proofs.Ends.{Ends, roomy, First, ends-refused, ends-first, first-none, ends-taken, ends-quiet, ends-still}
+use Rattle.calls.proofs.Refusals.{refusal-3, refusal-4, refusal-0}
+use Rattle.calls.proofs.Standing.{Standing}
+use Rattle.calls.proofs.Ends.{Ends, no_way, roomy, ends-27, ends-8, ends-refused, ends-taken, ends-quiet, ends-still}
 use Rattle.emission.specs.Written.{Written, Adds}
 use Rattle.emission.proofs.Adding.{none_written}
 use Rattle.observation.specs.declared.Moved.{Moved}
-use Rattle.observation.specs.Moves.{Moves, says_of}
+use Rattle.observation.specs.Moves.{Moves, Takes, says_of}
 use Rattle.observation.proofs.Observing.{with_observations, stored_at, cleared_of, all-is, already-is, stored-view, stored-neat, cleared-view, cleared-neat}
 use Rattle.observation.proofs.Observing.{judged_by, wrong-is, observation-is}
 
--- ---- 27, 8 and 3
-
--- a state that passes 27 has at most 32 participants
-pub few-of : (s : Held) {b : Bool} → b ≡ (represents s && is_sound (view s)) → b ≡ true → s.count ≤ 32
-few-of s e h = (count-bounds s (is-so (passes s (sym e ∙ h)).sound)).1
-
--- 27, or where the state passes it the refusal of 8 and 3; k is whether the enclaves are known
-abbrev pub Tried : Given → Held → Bool → Option Refusal → Type 0
-Tried g s k n = (((represents s && is_sound (view s)) ≡ false) × (n ≡ (Some UnsoundState))) ⊎ (Standing s × First g s true k n)
-
-module _ {g : Given} {s : Held} {k : Bool} {n : Option Refusal} where
-  pub tried-refused : Tried g s k n → (room : List ℕ) {r : Called} → (facts g.what).answer (view s) ≡ None → (refusal_number n ≡ 0 → ⊥)
-      → r ≡ replied s n None 0 → Ends g s r room room
-  tried-refused t room silent h e =
-      ⊎_elim (λ w. ends-refused g s room silent n (ap refusal_number w.1 ∙ refusal-27 g s w.0) (rw w.1 (omega arith)) e)
-      (λ w. ends-first g s w.1 room silent w.0.passing h e) t
-
-  pub tried-none : Tried g s k n → refusal_number n ≡ 0 → Standing s × (56 * (s.count + 2) ≤ g.room) × (k ≡ true) × (n ≡ None)
-  tried-none t h =
-      ⊎_elim (λ w. let z : ◌≡◌ {A = ℕ} 27 0 = sym (ap refusal_number w.1) ∙ h in absurd (omega arith))
-      (λ w. let f = first-none g s w.1 h in (w.0, f.0, f.2, w.1.is ∙ rw (le-ltb g.room (56 * (s.count + 2)) f.0, f.2) refl)) t
-
--- the reply of the values that the ways of a call have met at
-pub reply-is : {s t : Held} {n m : Option Refusal} {k l : ℕ} → s ≡ t → n ≡ m → k ≡ l → replied s n None k ≡ replied t m None l
-reply-is p q r = rw (p, q, r) refl
-
 -- ---- what is said
 
-said-few : (k e r : ℕ) → length (said_of k e r) ≤ 1
-said-few k e r =
-    one (eqb k 6) (Probe r) _ (one (eqb k 7) (Park r) _ (one (eqb k 8) (Recheck r) _ (one (eqb k 9) (Resume e r) _
-    (one (eqb k 10) Stop _ (one (eqb k 11) Abort [] (omega arith))))))
-  where
-    one : (b : Bool) (a : CoordinationAction) (l : List CoordinationAction) → length l ≤ 1 → length (cond b (a ∷ []) l) ≤ 1
-    one true a l h = omega arith
-    one false a l h = h
+said-few : (n : Option Notice) (e r : ℕ) → length (said_of n e r) ≤ 1
+said-few None e r = omega arith
+said-few (Some n) e r = omega arith
 
 pub said-written : (d : Moved) (n : ℕ) {room after : List ℕ} {k : ℕ} → 56 * (n + 2) ≤ length room → Adds (says_of d) room 0 after k → Written room (says_of d) after k
 said-written d n {room} h a = let f = said-few d.says 0 d.coordination.revision in a room [] (none_written room) (omega arith)
@@ -110,23 +80,54 @@ module _ {c : Call} {s : Held} {room : List ℕ} (n : Enters s room) (a : (facts
       ends-taken (lent (length room) c) s room a n.stands free (with_coordination d.coordination t) (says_of d) b
       (neat-with-coordination t h d.coordination m.neat) (step ∙ m.step)
 
+-- ---- 8, where the room alone is tested
+
+module _ (s : Held) (room : List ℕ) {n : Option Refusal} (e : n ≡ room_first (length room) s.count None) where
+  pub large_room : is_some n ≡ false → 56 * (s.count + 2) ≤ length room
+  large_room h = go (ltb (length room) (56 * (s.count + 2))) refl e
+    where
+      go : (b : Bool) → ltb (length room) (56 * (s.count + 2)) ≡ b → n ≡ cond b (Some RoomTooSmall) None → 56 * (s.count + 2) ≤ length room
+      go true l m = absurd (no_way (sym (rw m at h)))
+      go false l m = ltb-false (length room) (56 * (s.count + 2)) l
+
+  pub short_ends : (c : Call) → (facts c).takes_room ≡ true → (facts c).answer (view s) ≡ None → Standing s → is_some n ≡ true
+      → {r : Called} → r ≡ replied s n None 0 → Ends (lent (length room) c) s r room room
+  short_ends c t a st h {r} f = go (ltb (length room) (56 * (s.count + 2))) refl e
+    where
+      go : (b : Bool) → ltb (length room) (56 * (s.count + 2)) ≡ b → n ≡ cond b (Some RoomTooSmall) None → Ends (lent (length room) c) s r room room
+      go true l m = ends-8 (lent (length room) c) s room a st.passing t (ltb-true (length room) (56 * (s.count + 2)) l) (f ∙ rw m refl)
+      go false l m = absurd (no_way (rw m at h))
+
 -- ---- stop and idle confirmation: no message, and refused 27 or 8 alone
 
-pub take-stop : (m : State) → take_step stop m ≡ stop_of m
+pub takes-stop : (s : Held) (d : Moved) → (T (represents s) → Moves stop_of s d) → Takes s d stop
 unfolding take_step own_step
-take-stop m = refl
+takes-stop s d m = record { bare = refl; moves = m }
 
-pub take-idle : (r : ℕ) (m : State) → take_step (idle r) m ≡ idle_confirmation_of r m
+pub takes-idle : (s : Held) (r : ℕ) (d : Moved) → (T (represents s) → Moves (idle_confirmation_of r) s d) → Takes s d (idle r)
 unfolding take_step own_step
-take-idle r m = refl
+takes-idle s r d m = record { bare = refl; moves = m }
 
-module _ {c : Call} {s : Held} {room : List ℕ} (n : Enters s room) (p : facts c ≡ bare false true [] []) (rule : State → Step)
-    (step : take_step c (view s) ≡ rule (view s)) (d : Moved) (m : T (represents s) → Moves rule s d) where
-  pub bare_ends : {k : ℕ} {r : Called} {after : List ℕ} → k ≡ length (says_of d) → after ≡ put_at room 0 (records_of (says_of d))
-      → r ≡ replied (with_coordination d.coordination s) None None k → Ends (lent (length room) c) s r room after
-  bare_ends =
-      moved_ends n (rw p refl) (refusal-0 (lent (length room) c) s n.stands.passing (roomy c s (length room) n.large) (rw p refl) (rw p refl) (rw p refl) (rw p refl)) s n.stands.good.neat rule step d
-      (m n.stands.good.neat) (beyond-cells s d.coordination s.observation (beyond-refl s).observation)
+module _ {c : Call} {s : Held} {d : Moved} (t : Takes s d c) (room : List ℕ) where
+  silent : (facts c).answer (view s) ≡ None
+  silent = rw t.bare refl
+
+  pub bare-27 : {b : Bool} {r : Called} → b ≡ (represents s && is_sound (view s)) → b ≡ false → r ≡ replied s (Some UnsoundState) None 0 → Ends (lent (length room) c) s r room room
+  bare-27 = ends-27 (lent (length room) c) s room silent
+
+  pub bare-8 : Standing s → {n : Option Refusal} → n ≡ room_first (length room) s.count None → is_some n ≡ true → {r : Called} → r ≡ replied s n None 0
+      → Ends (lent (length room) c) s r room room
+  bare-8 st e = short_ends s room e c (rw t.bare refl) silent st
+
+  pub bare-taken : Standing s → {n : Option Refusal} → n ≡ room_first (length room) s.count None → is_some n ≡ false
+      → {k : ℕ} {after : List ℕ} {r : Called} → Adds (says_of d) room 0 after k → r ≡ replied (with_coordination d.coordination s) None None k
+      → Ends (lent (length room) c) s r room after
+  bare-taken st {n} e h a =
+      let large = large_room s room e h in
+      let w = said-written d s.count large a in
+      moved_ends (record { stands = st; large = large }) silent
+      (refusal-0 (lent (length room) c) s st.passing (roomy c s (length room) large) (rw t.bare refl) (rw t.bare refl) (rw t.bare refl) (rw t.bare refl))
+      s st.good.neat (take_step c) refl d (t.moves st.good.neat) (beyond-cells s d.coordination s.observation (beyond-refl s).observation) w.number w.bytes
 
 -- ---- an observation
 
@@ -134,25 +135,19 @@ take-observe : (e r : ℕ) (o : Observation) (m : State) → take_step (observe 
 unfolding take_step own_step
 take-observe e r o m = refl
 
--- 3 by the place
-pub known_is : {s : Held} (e r : ℕ) (o : Observation) (i : ℕ) → Standing s → i ≡ place_from (λ j. eqb (get_or s.enclaves j 0) e) 0 s.count
-    → ltb i s.count ≡ knows_all (facts (observe e r o)).names (view s).participants
-known_is {s} e r o i n p = go (ltb i s.count) refl
-  where
-    go : (b : Bool) → ltb i s.count ≡ b → b ≡ knows_all (facts (observe e r o)).names (view s).participants
-    go true h = rw (known s e i (seated s e i n.ascends p (ltb-true i s.count h))) refl
-    go false h = rw (unknown-knows s e i p (ltb-false i s.count h)) refl
+-- of nobody here
+pub observe-3 : {s : Held} {room : List ℕ} (e r : ℕ) (o : Observation) → Enters s room → None ≡ place_in s e
+    → {x : Called} → x ≡ replied s (Some UnknownEnclave) None 0 → Ends (lent (length room) (observe e r o)) s x room room
+observe-3 {s} {room} e r o n h =
+    ends-refused (lent (length room) (observe e r o)) s room refl (Some UnknownEnclave)
+    (refusal-3 (lent (length room) (observe e r o)) s n.stands.passing (roomy (observe e r o) s (length room) n.large) refl (rw (nobody s e h) refl)) (omega arith)
 
 -- by the participant at place i, in a state and a room that pass 27 and 8
 pub record Sits (e r : ℕ) (o : Observation) (s : Held) (room : List ℕ) (i : ℕ) : Type 0 where
   pub enters : Enters s room
-  pub place : i ≡ place_from (λ j. eqb (get_or s.enclaves j 0) e) 0 s.count
-  pub within : i < s.count
+  pub seat : Seated s e i
 
 module _ {e r : ℕ} {o : Observation} {s : Held} {room : List ℕ} {i : ℕ} (n : Sits e r o s room i) where
-  seat : Seated s e i
-  seat = seated s e i n.enters.stands.ascends n.place n.within
-
   neat : T (represents s)
   neat = n.enters.stands.good.neat
 
@@ -161,12 +156,12 @@ module _ {e r : ℕ} {o : Observation} {s : Held} {room : List ℕ} {i : ℕ} (n
     observe-4 t f =
         ends-refused (lent (length room) (observe e r o)) s room refl (Some InvalidObservationTransition)
         (refusal-4 (lent (length room) (observe e r o)) s n.enters.stands.passing (roomy (observe e r o) s (length room) n.enters.large) refl
-        (rw (known s e i seat) refl) (wrong-is s neat r o v q e ∙ ap is_refused t)) (omega arith) f
+        (rw (known s e i n.seat) refl) (wrong-is s neat r o v q e ∙ ap is_refused t)) (omega arith) f
 
     free : is_refused v ≡ false → 0 ≡ refusal_of (lent (length room) (observe e r o)) s
     free t =
         refusal-0 (lent (length room) (observe e r o)) s n.enters.stands.passing (roomy (observe e r o) s (length room) n.enters.large) refl
-        (rw (known s e i seat) refl) (wrong-is s neat r o v q e ∙ t) refl
+        (rw (known s e i n.seat) refl) (wrong-is s neat r o v q e ∙ t) refl
 
     step_by : (w : Verdict) → v ≡ w → take_step (observe e r o) (view s) ≡ observe_by w e o (view s)
     step_by w t = take-observe e r o (view s) ∙ observation-is s neat r o v q e ∙ ap (λ x. observe_by x e o (view s)) t
@@ -189,7 +184,7 @@ module _ {e r : ℕ} {o : Observation} {s : Held} {room : List ℕ} {i k : ℕ} 
   step-counted = step_by n.sits n.counts Counts refl
 
   already : observed_already e o (view s) ≡ eqb (get_or s.observation i 0) k
-  already = already-is s (neat n.sits) o k n.cell e i (seat n.sits)
+  already = already-is s (neat n.sits) o k n.cell e i n.sits.seat
 
   pub observe-repeat : get_or s.observation i 0 ≡ k → {x : Called} → x ≡ replied s None None 0 → Ends (lent (length room) (observe e r o)) s x room room
   unfolding observe_by
@@ -197,21 +192,23 @@ module _ {e r : ℕ} {o : Observation} {s : Held} {room : List ℕ} {i k : ℕ} 
       ends-still (lent (length room) (observe e r o)) s room refl n.sits.enters.stands free-counted (step-counted ∙ rw (already ∙ eq-eqb _ _ y) refl) f
 
   -- no repeat: the cell is stored, and b is whether all have this one then
-  module _ (y : get_or s.observation i 0 ≡ k → ⊥) {b : Bool} (w : b ≡ all_of (λ j. eqb (get_or (set s.observation i k) j 0) k) 0 s.count) where
+  module _ (y : get_or s.observation i 0 ≡ k → ⊥) {b : Bool} (w : b ≡ list_all (λ x. eqb x k) (take s.count (set s.observation i k))) where
     past-stored : Past plain 0 s.count s.observation (set s.observation i k)
-    past-stored = past-set 0 s.count i n.sits.within s.observation k
+    past-stored = past-set 0 s.count i n.sits.seat.within s.observation k
 
     neat-stored : T (represents (stored_at s i k))
-    neat-stored = stored-neat s n.sits.enters.stands.good.sized (neat n.sits) n.sits.enters.stands.few e i (seat n.sits) o k n.cell
+    neat-stored = stored-neat s n.sits.enters.stands.good.sized (neat n.sits) n.sits.enters.stands.few e i n.sits.seat o k n.cell
 
     step-stored : take_step (observe e r o) (view s) ≡ tally o (view (stored_at s i k))
     unfolding observe_by
     step-stored =
         let z = n.sits.enters.stands.good.sized in
-        step-counted ∙ rw (already ∙ ne_eqb _ _ y) (ap (tally o) (stored-view s z (neat n.sits) n.sits.enters.stands.few e i (seat n.sits) o k n.cell))
+        step-counted ∙ rw (already ∙ ne_eqb _ _ y) (ap (tally o) (stored-view s z (neat n.sits) n.sits.enters.stands.few e i n.sits.seat o k n.cell))
 
     all-stored : all_observed o (view (stored_at s i k)) ≡ b
-    all-stored = all-is (stored_at s i k) neat-stored o k n.cell ∙ sym w
+    all-stored =
+        all-is (stored_at s i k) neat-stored o k n.cell
+        (rw (length-set s.observation i k, n.sits.enters.stands.good.sized.observation) n.sits.enters.stands.few) ∙ sym w
 
     pub observe-stored : b ≡ false → {x : Called} → x ≡ replied (stored_at s i k) None None 0 → Ends (lent (length room) (observe e r o)) s x room room
     unfolding tally

@@ -1,127 +1,120 @@
 -- `observation::handle_observation` meets its promise: 27, 8, 3 and 4 first; an observation that is ignored or a repeat changes nothing; any other is stored,
 -- and once all have it all are cleared and the rule moves the coordination. Assumes nothing.
-use mathlib.Core.Path.{◌≡◌, refl, sym, ap, ◌∙◌, subst⁻¹}
-use mathlib.Core.Bool.{true}
-use mathlib.Core.Logic.{inl, inr}
-use Prim.Native.Nat.{ℕ, ◌+◌, ◌<◌}
-use native.Mathlib.Omega.{arith}
-use lib.Dec.{eqb, ltb}
-use lib.ListN.{length, get_or}
-use borrow.Author.Rules.{rules}
-use borrow.Author.Tests.{ltb-true}
-use Rattle.records.specs.Numbers.{refusal_number, observation_number}
-use Rattle.rules.specs.Model.{Counts, observe}
-use Rattle.state.specs.Walk.{place_from}
-use Rattle.state.specs.Parts.{Sized, with_coordination}
+use Rattle.std.proofs.Common.{◌≡◌, ◌+◌, true, refl, sym, ap, ◌∙◌, length, rules, arith}
+use Rattle.rules.specs.Model.{observe}
+use Rattle.state.specs.Parts.{Sized}
+use Rattle.state.proofs.Rows.{seated-in}
 use Rattle.state.proofs.Neat.{phase-bound}
-use Rattle.calls.specs.Called.{lent, room_first}
-use Rattle.calls.proofs.Standing.{standing}
-use Rattle.calls.proofs.Ends.{First, Ends}
-use Rattle.observation.proofs.Observing.{with_observations}
-use Rattle.observation.proofs.Taking.{Tried, tried-refused, tried-none, few-of, reply-is, said-written, known_is, Sits, Counted}
+use Rattle.calls.specs.Called.{lent}
+use Rattle.calls.proofs.Standing.{Standing, standing}
+use Rattle.calls.proofs.Ends.{ends-27}
+use Rattle.observation.proofs.Taking.{Enters, Sits, Counted, large_room, short_ends, said-written, observe-3}
 use Rattle.observation.proofs.Taking.{observe-4, observe-ignored, observe-repeat, observe-stored, observe-agreed}
 use Rattle.observation.proofs.handle_observation.Goals as goal
-use Rattle.observation.proofs.handle_observation.Goals.{Joined-is_sound, Else-refusal_number-ne0, then-is_sound, else-is_sound}
-use Rattle.observation.proofs.handle_observation.Goals.{in-Ignored, in-Refused}
-use Rattle.observation.proofs.handle_observation.Goals.{in-Counts+then-state-place+then-all_observed, in-Counts+then-state-place+else-all_observed, in-Counts+else-state-place}
+use Rattle.observation.proofs.handle_observation.Goals.{After-is_sound, Else-is_some, In-Some, After-from-cell}
 
-tried : (c : Joined-is_sound) → let a = c.args in
-    Tried (lent (length a.room.now) (observe a.enclave a.revision a.observation)) a.state (ltb c.if-is_sound.place a.state.count) c.if-is_sound.refusal
-tried c =
-    let a = c.args in
-    let s = a.state in
-    let g = lent (length a.room.now) (observe a.enclave a.revision a.observation) in
-    let sized : Sized s = search rules in
-    elim c.if-is_sound.branch [
-      | then-is_sound w ↦
-          let n = standing s sized c.is_sound.ensures w.if-is_sound.true in
-          inr (
-            n,
-            subst⁻¹ (λ i. First g s true (ltb i s.count) c.if-is_sound.refusal) w.place-is (record {
-              takes = refl;
-              proper = refl;
-              known = known_is a.enclave a.revision a.observation _ n w.find-place.ensures;
-              is = w.refusal-is ∙ w.room_first-refusal.ensures ∙ ap (room_first (length a.room.now) s.count) w.tag_first.ensures;
-            }),
-          )
-      | else-is_sound w ↦ inl (sym c.is_sound.ensures ∙ w.if-is_sound.false, w.refusal-is)
-    ]
+-- ---- the places on the way
 
-placed : (c : Joined-is_sound) → refusal_number c.if-is_sound.refusal ≡ 0
-    → c.if-is_sound.place ≡ place_from (λ j. eqb (get_or c.args.state.enclaves j 0) c.args.enclave) 0 c.args.state.count
-placed c h =
-    elim c.if-is_sound.branch [
-      | then-is_sound w ↦ w.place-is ∙ w.find-place.ensures
-      | else-is_sound w ↦ let z : ◌≡◌ {A = ℕ} 27 0 = sym (ap refusal_number w.refusal-is) ∙ h in absurd (omega arith)
-    ]
+stands : (c : After-is_sound) → c.is_sound.result ≡ true → Standing c.args.state
+stands c h = let sized : Sized c.args.state = search rules in standing c.args.state sized c.is_sound.ensures h
 
-sits : (c : Else-refusal_number-ne0) → let a = c.args in Sits a.enclave a.revision a.observation a.state a.room.now c.if-is_sound.place
+-- past 27 and 8
+enters : (c : Else-is_some) → Standing c.args.state → Enters c.args.state c.args.room.now
+enters c st = record { stands = st; large = large_room c.args.state c.args.room.now c.room_first-refusal.ensures (sym c.is_some.ensures ∙ c.if-is_some.false) }
+
+-- past 3
+sits : (c : In-Some) → let a = c.args in Sits a.enclave a.revision a.observation a.state a.room.now c.in-Some.place
 sits c =
-    let j = (goal.at.judged-requires c).Joined-is_sound in
-    let free : refusal_number c.if-is_sound.refusal ≡ 0 = sym c.refusal_number.ensures ∙ c.if-refusal_number-ne0.false in
-    let p = tried-none (tried j) free in
-    record { enters = record { stands = p.0; large = p.1 }; place = placed j free; within = ltb-true _ _ p.2 }
+    let at = goal.at.judged-requires c in
+    let n = enters at.Else-is_some (stands at.After-is_sound c.if-not-is_sound.false) in
+    record { enters = n; seat = seated-in c.args.state c.args.enclave n.stands.ascends c.in-Some.ensures }
 
-seat-near : (c : Else-refusal_number-ne0) → c.if-is_sound.place < 32
-seat-near c = let n = sits c in omega (arith, n.within, n.enters.stands.few)
+-- ---- 27, 8 and 3
 
-pub find-place-requires : goal.find-place-requires
-find-place-requires c = few-of c.args.state c.is_sound.ensures c.if-is_sound.true
+pub returns-then-not-is_sound : goal.returns-then-not-is_sound
+returns-then-not-is_sound c =
+    let a = c.args in
+    let o = ends-27 (lent (length a.room.now) (observe a.enclave a.revision a.observation)) a.state a.room.now refl
+    c.is_sound.ensures c.if-not-is_sound.true c.with_reply.ensures
+    in
+    record { promised = o.0; bytes = o.1 }
 
 pub room_first-refusal-requires : goal.room_first-refusal-requires
-room_first-refusal-requires c = few-of c.args.state c.is_sound.ensures c.if-is_sound.true
+room_first-refusal-requires c = (stands (goal.at.room_first-refusal-requires c).After-is_sound c.if-not-is_sound.false).few
 
-pub returns-then-refusal_number-ne0 : goal.returns-then-refusal_number-ne0
-returns-then-refusal_number-ne0 c =
-    let o = tried-refused (tried (goal.at.returns-then-refusal_number-ne0 c).Joined-is_sound) c.args.room.now refl
-    (λ z. c.if-refusal_number-ne0.true (c.refusal_number.ensures ∙ z)) c.with_reply.ensures
+pub returns-then-is_some : goal.returns-then-is_some
+returns-then-is_some c =
+    let a = c.args in
+    let st = stands (goal.at.returns-then-is_some c).After-is_sound c.if-not-is_sound.false in
+    let o = short_ends a.state a.room.now c.room_first-refusal.ensures (observe a.enclave a.revision a.observation) refl refl st
+    (sym c.is_some.ensures ∙ c.if-is_some.true) c.with_reply-then-is_some.ensures
     in
+    record { promised = o.0; bytes = o.1 }
+
+pub find-requires : goal.find-requires
+find-requires c = (stands (goal.at.find-requires c).After-is_sound c.if-not-is_sound.false).few
+
+pub returns-in_default : goal.returns-in_default
+returns-in_default c =
+    let a = c.args in
+    let at = goal.at.returns-in_default c in
+    let n = enters at.Else-is_some (stands at.After-is_sound c.if-not-is_sound.false) in
+    let o = observe-3 a.enclave a.revision a.observation n c.in_default.ensures c.with_reply-in_default.ensures in
     record { promised = o.0; bytes = o.1 }
 
 pub judged-requires : goal.judged-requires
 judged-requires c = phase-bound _ (sits c).enters.stands.good.neat
 
-pub bounds-state-place : goal.bounds-state-place
-bounds-state-place c = seat-near (goal.at.bounds-state-place c).Else-refusal_number-ne0
+-- ---- ignored, refused, a repeat, stored, agreed
 
-pub bounds-state-place-then-state-place : goal.bounds-state-place-then-state-place
-bounds-state-place-then-state-place c = seat-near (goal.at.bounds-state-place-then-state-place c).Else-refusal_number-ne0
+pub bounds-state-place : goal.bounds-state-place
+bounds-state-place c = let n = sits (goal.at.bounds-state-place c).In-Some in omega (arith, n.seat.within, n.enters.stands.few)
+
+pub bounds-state-place-in-Counts : goal.bounds-state-place-in-Counts
+bounds-state-place-in-Counts c = let n = sits (goal.at.bounds-state-place-in-Counts c).In-Some in omega (arith, n.seat.within, n.enters.stands.few)
 
 pub all_observed-requires : goal.all_observed-requires
-all_observed-requires c = (sits (goal.at.all_observed-requires c).Else-refusal_number-ne0).enters.stands.few
+all_observed-requires c = (sits (goal.at.all_observed-requires c).In-Some).enters.stands.few
 
 pub clear-requires : goal.clear-requires
-clear-requires c = (sits (goal.at.clear-requires c).Else-refusal_number-ne0).enters.stands.few
+clear-requires c = (sits (goal.at.clear-requires c).In-Some).enters.stands.few
 
--- by each way to the reply: ignored, refused, agreed, stored, or a repeat
-pub returns : goal.returns
-returns c =
-    let a = c.args in
-    let s = a.state in
-    let e = (goal.at.returns c).Else-refusal_number-ne0 in
-    let n = sits e in
-    let t = (tried-none (tried (goal.at.returns c).Joined-is_sound) (sym e.refusal_number.ensures ∙ e.if-refusal_number-ne0.false)).3 in
-    let r = c.with_reply-2.ensures in
-    let counted : (k : ℕ) → k ≡ observation_number a.observation → c.judged.result ≡ Counts → Counted a.enclave a.revision a.observation s a.room.now c.if-is_sound.place (k + 1) =
-    λ k p q. record { sits = n; counts = sym q ∙ c.judged.ensures; cell = ap (λ x. x + 1) p }
+pub returns-in-Ignored : goal.returns-in-Ignored
+returns-in-Ignored c =
+    let o = observe-ignored (sits (goal.at.returns-in-Ignored c).In-Some) c.judged.ensures c.in-Ignored.is c.with_reply-in-Ignored.ensures in
+    record { promised = o.0; bytes = o.1 }
+
+pub returns-in-Refused : goal.returns-in-Refused
+returns-in-Refused c =
+    let o = observe-4 (sits (goal.at.returns-in-Refused c).In-Some) c.judged.ensures c.in-Refused.is c.with_reply-in-Refused.ensures in
+    record { promised = o.0; bytes = o.1 }
+
+-- one that counts
+counted : (c : After-from-cell) → let a = c.args in Counted a.enclave a.revision a.observation a.state a.room.now c.in-Some.place (c.from-cell.result + 1)
+counted c = record {
+  sits = sits (goal.at.bounds-state-place c).In-Some;
+  counts = sym c.in-Counts.is ∙ c.judged.ensures;
+  cell = ap (λ x. x + 1) c.from-cell.ensures;
+}
+
+pub returns-then-state-place : goal.returns-then-state-place
+returns-then-state-place c =
+    let o = observe-repeat (counted (goal.at.returns-then-state-place c).After-from-cell) c.if-state-place.true c.with_reply-then-state-place.ensures in
+    record { promised = o.0; bytes = o.1 }
+
+pub returns-then-not-all_observed : goal.returns-then-not-all_observed
+returns-then-not-all_observed c =
+    let o = observe-stored (counted (goal.at.returns-then-not-all_observed c).After-from-cell) c.if-state-place.false c.all_observed.ensures c.if-not-all_observed.true
+    c.with_reply-then-not-all_observed.ensures
     in
-    let o : Ends (lent (length a.room.now) (observe a.enclave a.revision a.observation)) s c.with_reply-2.result a.room.now c.match-judged.room =
-    elim c.match-judged.branch [
-      | in-Ignored w ↦ rw w.room-is (observe-ignored n c.judged.ensures w.in-Ignored.is (r ∙ reply-is w.state-is (w.refusal-is ∙ t) w.written-is))
-      | in-Refused w ↦ rw w.room-is (observe-4 n c.judged.ensures w.in-Refused.is (r ∙ reply-is w.state-is w.refusal-is w.written-is))
-      | in-Counts+then-state-place+then-all_observed w ↦
-          let k = counted w.observation_number-cell.result w.observation_number-cell.ensures w.in-Counts.is in
-          let moved = w.agreed-moved.result in
-          let said = said-written moved s.count n.enters.large w.add_kind-written.ensures.adds in
-          observe-agreed k w.if-state-place.true w.all_observed.ensures w.if-all_observed.true moved (λ h. w.agreed-moved.ensures _ h refl refl)
-          (w.written-is ∙ said.number) (w.room-is ∙ said.bytes)
-          (r ∙ reply-is (w.state-is ∙ ap (λ l. with_coordination moved.coordination (with_observations l s)) w.clear.ensures) (w.refusal-is ∙ t) refl)
-      | in-Counts+then-state-place+else-all_observed w ↦
-          let k = counted w.observation_number-cell.result w.observation_number-cell.ensures w.in-Counts.is in
-          rw w.room-is (observe-stored k w.if-state-place.true w.all_observed.ensures w.if-all_observed.false (r ∙ reply-is w.state-is (w.refusal-is ∙ t) w.written-is))
-      | in-Counts+else-state-place w ↦
-          let k = counted w.observation_number-cell.result w.observation_number-cell.ensures w.in-Counts.is in
-          rw w.room-is (observe-repeat k w.if-state-place.false (r ∙ reply-is w.state-is (w.refusal-is ∙ t) w.written-is))
-    ]
+    record { promised = o.0; bytes = o.1 }
+
+pub returns-else-not-all_observed : goal.returns-else-not-all_observed
+returns-else-not-all_observed c =
+    let k = counted (goal.at.returns-else-not-all_observed c).After-from-cell in
+    let moved = c.agreed-moved.result in
+    let said = said-written moved c.args.state.count k.sits.enters.large c.add_notice-written.ensures.adds in
+    let o = observe-agreed k c.if-state-place.false c.all_observed.ensures c.if-not-all_observed.false moved (λ h. c.agreed-moved.ensures _ h refl refl)
+    said.number said.bytes (c.with_reply-in-Counts.ensures ∙ rw c.clear.ensures refl)
     in
     record { promised = o.0; bytes = o.1 }
