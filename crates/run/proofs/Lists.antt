@@ -1,7 +1,6 @@
 -- An event taken and listed: its line and the lines of the records that its call wrote are the event's lines. The records hold the call's actions, each
 -- of which can be written, so each reads back. Assumes nothing.
-use Rattle.std.specs.Prelude.{None, Option, Some}
-use mathlib.Core.Path.{◌≡◌, refl, ap, ◌∙◌}
+use mathlib.Core.Path.{◌≡◌, ap, ◌∙◌}
 use mathlib.Core.List.{List, ◌++◌}
 use Prim.Native.Nat.{ℕ, ◌+◌, ◌*◌, ◌≤◌}
 use native.Mathlib.Omega.{arith}
@@ -21,15 +20,14 @@ use Rattle.printing.proofs.Runs.{then-more}
 use Rattle.listing.specs.Listing.{event_line, action_lines}
 use Rattle.listing.specs.Records.{record_lines}
 use Rattle.listing.proofs.Records.{record-lines}
-use Rattle.take.specs.Takes.{Takes, TakesCall}
+use Rattle.take.specs.Takes.{TakesCall}
 use Rattle.budget.specs.Run.{given, event_lines}
 use Rattle.run.specs.Promises.{ListsBy}
 use Rattle.run.proofs.Lengths.{actions-few}
 
--- a taken event has at most 34 actions; what is no event has none
-pub takes-few : (o : Option Call) (s : Held) (before after : List ℕ) (r : Called) → Takes o s before after r → r.reply.actions ≤ 34
-takes-few None s before after r (e, kept) = rw (ap (λ x. x.reply.actions) e) (omega arith)
-takes-few (Some c) s before after r t = omega (arith, t.promised.actions, actions-few (length before) c s)
+-- a taken event has at most 34 actions
+pub takes-few : (c : Call) (s : Held) (before after : List ℕ) (r : Called) → TakesCall c s before after r → r.reply.actions ≤ 34
+takes-few c s before after r t = omega (arith, t.promised.actions, actions-few (length before) c s)
 
 -- a run put within the room keeps its length
 pub length-kept : {out out' run : List ℕ} {at n : ℕ} → Puts out at run 160 n out' → at + 5600 ≤ length out → length out' ≡ length out
@@ -56,9 +54,10 @@ module _ (c : Call) (s : Held) (number written told end : ℕ) (zeros room out o
       ∙ ap (λ a. event_line number (refusal_of (given c) s) a r.reply.actions) (t.promised.answer ∙ ap (λ n. answer_of (lent n c) s) long)
       ∙ ap (event_line number (refusal_of (given c) s) (answer_of (given c) s)) (t.promised.actions ∙ ap length acts-as)
 
-  lists-call : Puts out written (event_line number (refusal_number r.reply.refusal) r.reply.answer r.reply.actions) 160 told out'
+  -- what a `list_event` leaves
+  pub lists-call : Puts out written (event_line number (refusal_number r.reply.refusal) r.reply.answer r.reply.actions) 160 told out'
       → Puts out' told (record_lines r.reply.actions room) (160 * r.reply.actions) end out'' → end ≤ length out
-      → ListsBy (Some c) s number written out out'' (record { state = r.state; written = end })
+      → ListsBy c s number written out out'' (record { state = r.state; written = end })
   unfolding event_lines
   lists-call p q fits =
       let whole = then-more p q fits in
@@ -71,14 +70,3 @@ module _ (c : Call) (s : Held) (number written told end : ℕ) (zeros room out o
         ap (λ x. record { state = x; written = end }) state ∙ ap (λ n. record { state = state_of (given c) s; written = n }) after,
         whole.bytes ∙ ap (put_at out written) both,
       )
-
--- what a `list_event` leaves, for whatever the event tells
-pub lists : (o : Option Call) (s : Held) (number written told end : ℕ) (zeros room out out' out'' : List ℕ) (r : Called) → length zeros ≡ 1904
-    → Takes o s zeros room r
-    → ((c : Call) → o ≡ Some c → Each Writable (actions_of (given c) s))
-    → Puts out written (event_line number (refusal_number r.reply.refusal) r.reply.answer r.reply.actions) 160 told out'
-    → Puts out' told (record_lines r.reply.actions room) (160 * r.reply.actions) end out'' → end ≤ length out
-    → ListsBy o s number written out out'' (record { state = r.state; written = end })
-lists None s number written told end zeros room out out' out'' r long t writes p q fits = tt
-lists (Some c) s number written told end zeros room out out' out'' r long t writes p q fits =
-    lists-call c s number written told end zeros room out out' out'' r long t (writes c refl) p q fits

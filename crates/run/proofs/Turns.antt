@@ -1,7 +1,7 @@
 -- The turns of a run: what the run of the events left gives from here is what the whole run gives. An event's lines fit in 5,600 bytes, so those of the
 -- events left fit in the room left. Assumes nothing.
 use mathlib.Core.Path.{◌≡◌, refl, sym, ap, ◌∙◌}
-use mathlib.Core.Bool.{true, false}
+use Rattle.std.specs.Prelude.{None, Some}
 use mathlib.Core.List.{List, [], ◌∷◌, ◌++◌}
 use Prim.Native.Nat.{ℕ, suc, ◌+◌, ◌-◌, ◌*◌, ◌≤◌, ◌<◌}
 use native.Mathlib.Omega.{arith}
@@ -10,7 +10,6 @@ use Rattle.octets.specs.Runs.{put_at}
 use Rattle.octets.proofs.Runs.{put-append, put-nil, length-put}
 use Rattle.rules.specs.Model.{Call}
 use Rattle.state.specs.declared.FederateCoordinationState.{FederateCoordinationState as Held}
-use Rattle.calls.proofs.Ends.{no_way}
 use Rattle.calls.specs.Called.{state_of}
 use Rattle.events.specs.Events.{event_of}
 use Rattle.script.specs.Lines.{Reading, Bad, Good, item}
@@ -136,18 +135,18 @@ module _ (n taken : ℕ) (script : List ℕ) (at : ℕ) where
 
 -- ---- by what a step answers
 
-module _ (script : List ℕ) (n before : ℕ) (s₀ : Held) (at₀ : ℕ) (out₀ out out' : List ℕ) (s : Held) (at taken written : ℕ) (more : taken < n)
-    (q : Stepped) where
-  pub turns-on : Left script n before s₀ at₀ out₀ out s at taken written → (r : Reading Call) → item event_of script at ≡ r
-      → StepsBy r s at (before + taken + 1) written out out' q → q.moved ≡ true
-      → Left script n before s₀ at₀ out₀ out' q.state q.at (taken + 1) q.written
-  turns-on l (Bad place) found (e, kept) moved = let z : false ≡ true = sym (ap (λ x. x.moved) e) ∙ moved in absurd (no_way z)
-  turns-on l (Good c next) found (e, put) moved = rw e (goes_on script n before s₀ at₀ out₀ out out' s at taken written l more c next found put)
+module _ (script : List ℕ) (n before : ℕ) (s₀ : Held) (at₀ : ℕ) (out₀ out out' : List ℕ) (s : Held) (at taken written : ℕ) (more : taken < n) where
+  pub turns-on : Left script n before s₀ at₀ out₀ out s at taken written → (q : Stepped) (r : Reading Call) → item event_of script at ≡ r
+      → StepsBy r s (before + taken + 1) written out out' (Some q) → Left script n before s₀ at₀ out₀ out' q.state q.at (taken + 1) q.written
+  turns-on l q (Bad place) found (e, kept) = let z : ◌≡◌ {A = ℕ} 0 1 = cc in absurd (omega arith)
+  turns-on l q (Good c next) found (e, put) =
+      let is : q ≡ record { state = state_of (given c) s; at = next; written = written + length (event_lines (before + taken + 1) c s) } = cc in
+      rw is (goes_on script n before s₀ at₀ out₀ out out' s at taken written l more c next found put)
 
-  pub turns-not : (r : Reading Call) → item event_of script at ≡ r → StepsBy r s at (before + taken + 1) written out out' q → q.moved ≡ false
+  pub turns-not : (r : Reading Call) → item event_of script at ≡ r → StepsBy r s (before + taken + 1) written out out' None
       → (calls_from (n - taken) script at ≡ []) × (place_from (n - taken) script at ≡ at) × (out' ≡ out)
-  turns-not (Bad place) found (e, kept) still = (none_found n taken script at more place found, none-moved n taken script at more place found, kept)
-  turns-not (Good c next) found (e, put) still = let z : false ≡ true = sym still ∙ ap (λ x. x.moved) e in absurd (no_way z)
+  turns-not (Bad place) found (e, kept) = (none_found n taken script at more place found, none-moved n taken script at more place found, kept)
+  turns-not (Good c next) found (e, put) = let z : ◌≡◌ {A = ℕ} 0 1 = cc in absurd (omega arith)
 
 -- ---- nothing more: all were taken, or no event stands here
 

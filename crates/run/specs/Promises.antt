@@ -1,5 +1,5 @@
 -- What a run from a place promises. Assumes nothing.
-use Rattle.std.specs.Prelude.{◌≡◌, true, false, List, ℕ, ◌+◌, ◌-◌, length, None, Option, Some}
+use Rattle.std.specs.Prelude.{◌≡◌, List, ℕ, ◌+◌, ◌-◌, length, None, Option, Some}
 use Rattle.octets.specs.Runs.{put_at}
 use Rattle.rules.specs.Model.{Call}
 use Rattle.state.specs.declared.FederateCoordinationState.{FederateCoordinationState as Held}
@@ -25,15 +25,14 @@ pub record Runs (script : List ℕ) (p : Running) (budget : ℕ) (before after :
   pub written : r.written ≡ length (run_lines (next_number p) (calls_from (allowance budget p.left (length before)) script p.at) p.state)
   pub bytes : after ≡ put_at before 0 (run_lines (next_number p) (calls_from (allowance budget p.left (length before)) script p.at) p.state)
 
--- an event that tells a call, taken and listed from `written` on
-abbrev pub ListsBy : Option Call → Held → ℕ → ℕ → List ℕ → List ℕ → Listed → Type 0
-ListsBy None s number written before after r = Unit {0}
-ListsBy (Some c) s number written before after r =
+-- an event's call, taken and listed from `written` on
+abbrev pub ListsBy : Call → Held → ℕ → ℕ → List ℕ → List ℕ → Listed → Type 0
+ListsBy c s number written before after r =
     (r ≡ record { state = state_of (given c) s; written = written + length (event_lines number c s) }) × (after ≡ put_at before written (event_lines number c s))
 
 -- one event at a place: taken by its call and listed from `written` on; or there is none
-abbrev pub StepsBy : Reading Call → Held → ℕ → ℕ → ℕ → List ℕ → List ℕ → Stepped → Type 0
-StepsBy (Bad place) s at number written before after r = (r ≡ record { moved = false; state = s; at = at; written = written }) × (after ≡ before)
-StepsBy (Good c next) s at number written before after r =
-    (r ≡ record { moved = true; state = state_of (given c) s; at = next; written = written + length (event_lines number c s) })
+abbrev pub StepsBy : Reading Call → Held → ℕ → ℕ → List ℕ → List ℕ → Option Stepped → Type 0
+StepsBy (Bad place) s number written before after r = (r ≡ None) × (after ≡ before)
+StepsBy (Good c next) s number written before after r =
+    (r ≡ Some (record { state = state_of (given c) s; at = next; written = written + length (event_lines number c s) }))
     × (after ≡ put_at before written (event_lines number c s))

@@ -4,7 +4,7 @@
 
 ghost use Rattle.std.specs.Prelude.{◌+◌, ◌≤◌, length};
 ghost use Rattle.events.specs.Events.{event_of};
-ghost use Rattle.events.specs.Told.{told_event};
+ghost use Rattle.events.specs.Told.{call_told};
 ghost use Rattle.script.specs.Lines.{item};
 ghost use Rattle.run.specs.Promises.{Runs, ListsBy, StepsBy};
 
@@ -35,10 +35,9 @@ struct Listed {
     written: usize,
 }
 
-// One event taken, if there is one, and where its lines end.
+// One event taken, the place after it, and where its lines end.
 #[derive(Clone, Copy)]
 struct Stepped {
-    moved: bool,
     state: FederateCoordinationState,
     at: usize,
     written: usize,
@@ -54,10 +53,10 @@ fn list_event(
     written: usize,
 ) -> Listed
     requires { written + 5600 ≤ length out.old }
-    ensures { ListsBy (told_event event listed.now) state number written out.old out.new result }
+    ensures { ListsBy (call_told event listed.now) state number written out.old out.new result }
 {
     let mut room: [u8; 1904] = [0; 1904];
-    let called = take::take(state, event, listed, &mut room);
+    let called = take::take(state, Some(event), listed, &mut room);
     let reply = called.reply;
     let next = called.state;
     let refusal = reply.refusal;
@@ -70,7 +69,7 @@ fn list_event(
     }
 }
 
-// The event at the place, taken and listed.
+// The event at the place, taken and listed; none where no event stands.
 fn step(
     script: &[u8],
     state: FederateCoordinationState,
@@ -78,31 +77,23 @@ fn step(
     number: u64,
     out: &mut [u8],
     written: usize,
-) -> Stepped
+) -> Option<Stepped>
     requires { written + 5600 ≤ length out.old }
-    ensures { StepsBy (item event_of script.now at) state at number written out.old out.new result }
+    ensures { StepsBy (item event_of script.now at) state number written out.old out.new result }
 {
-    if reader::is_ended(script, at) {
-        let line = reader::line_from(script, at);
-        if script::is_event(line) {
-            let event = eventlines::read_event(line);
-            let enclaves = eventlines::enclaves(line);
-            let listed = list_event(state, event, &enclaves, number, out, written);
-            let next = listed.state;
-            return Stepped {
-                moved: true,
-                state: next,
-                at: reader::place_after(script, at),
-                written: listed.written,
-            };
-        }
+    if !reader::is_ended(script, at) {
+        return None;
     }
-    Stepped {
-        moved: false,
-        state,
-        at,
-        written,
-    }
+    let line = reader::line_from(script, at);
+    let event = eventlines::read_event(line)?;
+    let enclaves = eventlines::enclaves(line);
+    let listed = list_event(state, event, &enclaves, number, out, written);
+    let next = listed.state;
+    Some(Stepped {
+        state: next,
+        at: reader::place_after(script, at),
+        written: listed.written,
+    })
 }
 
 // Runs at most `budget` events from where the run stands, and lists them from byte 0 of the room on.
@@ -117,11 +108,12 @@ pub fn run(script: &[u8], from: Running, budget: usize, out: &mut [u8]) -> Ran
     let mut at = from.at;
     let mut taken: usize = 0;
     let mut written: usize = 0;
+    // Kept: a while, since the number taken is answered, and the loop ends before it is `allowed` where no event stands (d).
     while taken < allowed {
-        let stepped = step(script, state, at, (before + taken + 1) as u64, out, written);
-        if !stepped.moved {
+        let number = (before + taken + 1) as u64;
+        let Some(stepped) = step(script, state, at, number, out, written) else {
             break;
-        }
+        };
         state = stepped.state;
         at = stepped.at;
         written = stepped.written;

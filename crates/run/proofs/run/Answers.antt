@@ -3,12 +3,11 @@ use mathlib.Core.Path.{◌≡◌, refl, ◌∙◌}
 use mathlib.Core.List.{[]}
 use Prim.Native.Nat.{◌+◌, ◌-◌, ◌^◌, ◌<◌}
 use native.Mathlib.Omega.{arith}
-use borrow.Author.Tests.{not-true, not-false}
 use Rattle.budget.specs.Run.{calls_from, place_from}
 use Rattle.budget.proofs.Counts.{allowed-left, allowed-fits}
 use Rattle.run.proofs.Turns.{begins, turns-on, turns-not, all-taken, all_here, ended}
 use Rattle.run.proofs.run.Goals as goal
-use Rattle.run.proofs.run.Goals.{else-loop-taken-test, then-loop-taken-test+then-not-stepped}
+use Rattle.run.proofs.run.Goals.{else-loop-taken-test, then-loop-taken-test+in_default}
 
 pub loop-taken-init : goal.loop-taken-init
 loop-taken-init c = begins _ _ _ _ _ _ (allowed-fits _ _ _ _ c.allowance-allowed.ensures)
@@ -20,15 +19,14 @@ small c =
     let left = allowed-left _ _ _ _ c.allowance-allowed.ensures in
     omega (arith, good.0.1, good.1.0.1, left, c.loop-taken-test.true, c.difference-before.ensures)
 
-pub overflow_add-before : goal.overflow_add-before
-overflow_add-before c = record { fits = omega (arith, small c) }
+pub overflow_add-number : goal.overflow_add-number
+overflow_add-number c = record { fits = omega (arith, small c) }
 
-pub overflow_add-before-in-loop-taken : goal.overflow_add-before-in-loop-taken
-overflow_add-before-in-loop-taken c = record { fits = small c }
+pub overflow_add-number-2 : goal.overflow_add-number-2
+overflow_add-number-2 c = record { fits = small c }
 
 pub loop-taken-preserved : goal.loop-taken-preserved
-loop-taken-preserved c = turns-on _ _ _ _ _ _ _ _ _ _ _ _ c.loop-taken-test.true c.step-stepped.result c.loop-taken.invariant _ refl c.step-stepped.ensures
-    (not-false _ c.if-not-stepped.false)
+loop-taken-preserved c = turns-on _ _ _ _ _ _ _ _ _ _ _ _ c.loop-taken-test.true c.loop-taken.invariant c.in-Some.stepped _ refl c.in-Some.ensures
 
 pub overflow_sub-rest : goal.overflow_sub-rest
 overflow_sub-rest c = let h = allowed-left _ _ _ _ c.allowance-allowed.ensures in
@@ -45,9 +43,8 @@ returns c =
     let no_more : (calls_from (n - taken) script at ≡ []) × (place_from (n - taken) script at ≡ at) × (c.loop-taken-test.out ≡ c.loop-taken.out) =
     elim c.loop-taken-test.branch [
       | else-loop-taken-test w ↦ (all-taken n taken script at w.loop-taken-test.false, all_here n taken script at w.loop-taken-test.false, w.out-is)
-      | then-loop-taken-test+then-not-stepped w ↦
-          let t = turns-not _ _ _ c.loop-taken.state at c.loop-taken.out _ _ _ _ _ _ w.loop-taken-test.true w.step-stepped.result _ refl w.step-stepped.ensures
-          (not-true _ w.if-not-stepped.true) in
+      | then-loop-taken-test+in_default w ↦
+          let t = turns-not _ _ _ c.loop-taken.state at c.loop-taken.out _ _ _ _ _ _ w.loop-taken-test.true _ refl w.in_default.ensures in
           (t.0, t.1, w.out-is ∙ t.2)
     ] in
     rw no_more.2

@@ -1,26 +1,28 @@
--- `run::step` takes and lists the event at a place, by the line there, or stays where there is none. Assumes nothing.
-use mathlib.Core.Path.{◌≡◌, refl, sym, ap, ◌∙◌, subst}
+-- `run::step` takes and lists the event at a place, by the line there, or nothing where there is none. Assumes nothing.
+use mathlib.Core.Path.{refl, sym, ap, ◌∙◌, subst}
 use mathlib.Core.Bool.{not}
+use Rattle.std.specs.Prelude.{Some}
 use Rattle.events.specs.Events.{event_of}
-use Rattle.events.specs.Told.{told_event, enclaves_of, is_given}
+use Rattle.events.specs.Told.{told_event, call_told, enclaves_of}
+use Rattle.run.specs.Promises.{ListsBy}
 use Rattle.run.proofs.Steps.{unended, no-event, an-event}
 use Rattle.run.proofs.step.Goals as goal
 
-pub returns-then-is_event : goal.returns-then-is_event
-returns-then-is_event c = let a = c.args in
-    let event = c.read_event-event.result in
-    let here = c.line_from-line.ensures in
-    an-event a.script.now a.at a.state a.number a.written a.out.now _ event _ _ c.is_ended.ensures (ap not c.if-is_ended.true)
-    _ c.place_after.ensures (subst (λ l. told_event event (enclaves_of l) ≡ event_of l) here c.read_event-event.ensures)
-    _ (c.enclaves-enclaves.ensures ∙ ap enclaves_of here)
-    (ap (λ l. is_given (event_of l)) (sym here) ∙ sym c.is_event.ensures ∙ c.if-is_event.true)
-    c.list_event-listed.ensures
+pub returns-then-not-is_ended : goal.returns-then-not-is_ended
+returns-then-not-is_ended c = let a = c.args in
+    unended a.script.now a.at a.state a.number a.written a.out.now _ refl _ c.is_ended.ensures c.if-not-is_ended.true
 
-pub returns-else-is_event : goal.returns-else-is_event
-returns-else-is_event c = let a = c.args in
-    no-event a.script.now a.at a.state a.number a.written a.out.now _ refl
-    (ap (λ l. is_given (event_of l)) (sym c.line_from-line.ensures) ∙ sym c.is_event.ensures ∙ c.if-is_event.false)
+pub returns-in_err-event : goal.returns-in_err-event
+returns-in_err-event c = let a = c.args in
+    no-event a.script.now a.at a.state a.number a.written a.out.now _ c.from_residual.ensures
+    (c.in_err-event.ensures ∙ ap event_of c.line_from-line.ensures)
 
-pub returns-else-is_ended : goal.returns-else-is_ended
-returns-else-is_ended c = let a = c.args in
-    unended a.script.now a.at a.state a.number a.written a.out.now _ refl _ c.is_ended.ensures (ap not c.if-is_ended.false)
+pub returns : goal.returns
+returns c = let a = c.args in
+    let event = c.in_ok-event.event in
+    let line = c.line_from-line.result.now in
+    let told = c.in_ok-event.ensures in
+    let names = c.enclaves-enclaves.ensures in
+    an-event a.script.now a.at a.state a.number a.written a.out.now _ _ _ c.is_ended.ensures c.if-not-is_ended.false
+    _ c.place_after.ensures (call_told event (enclaves_of line)) (ap event_of (sym c.line_from-line.ensures) ∙ sym told)
+    (subst (λ es. ListsBy (call_told event es) a.state a.number a.written a.out.now _ _) names c.list_event-listed.ensures)
