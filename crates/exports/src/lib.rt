@@ -8,12 +8,10 @@ ghost use Rattle.actions.specs.Reading.{read_action};
 ghost use Rattle.asking.specs.Asked.{asked_of};
 ghost use Rattle.plain.specs.Given.{call_of};
 ghost use Rattle.plain.specs.Read.{read_numbers};
-ghost use Rattle.plain.specs.Replied.{numbers_of};
 ghost use Rattle.exports.specs.After.{Gives};
 ghost use Rattle.exports.specs.Opened.{policy_of, opened_numbers};
 
 use asking::AskedNumbers;
-use calls::Called;
 use plain::{ActionNumbers, CallNumbers, ReplyNumbers};
 use records::{LifecyclePolicy, Refusal};
 use state::FederateCoordinationState;
@@ -26,31 +24,6 @@ pub struct OpenedNumbers {
     pub state: FederateCoordinationState,
 }
 
-fn called(
-    state: FederateCoordinationState,
-    call: CallNumbers,
-    listed: &[u32],
-    room: &mut [u8],
-) -> Called
-    ensures { Gives (call_of call listed.now) state room.old result.state (numbers_of result.reply) room.new }
-{
-    let event = plain::event_of(call, listed);
-    take::take(state, event, listed, room)
-}
-
-fn state_of(done: Called) -> FederateCoordinationState
-    ensures { result ≡ done.state }
-{
-    done.state
-}
-
-fn reply_of(done: Called) -> ReplyNumbers
-    ensures { result ≡ numbers_of done.reply }
-{
-    let reply = done.reply;
-    plain::reply_numbers(reply)
-}
-
 // The call that the numbers tell, on the state lent; an `input` names the listed enclaves. 11 where they tell none.
 #[unsafe(no_mangle)]
 pub extern "C" fn federate_call(
@@ -61,10 +34,10 @@ pub extern "C" fn federate_call(
 ) -> ReplyNumbers
     ensures { Gives (call_of call listed.now) state.old room.old state.new result room.new }
 {
-    let old = *state;
-    let done = called(old, call, listed, room);
-    *state = state_of(done);
-    reply_of(done)
+    let event = plain::event_of(call, listed);
+    let called = take::take(*state, event, listed, room);
+    *state = called.state;
+    plain::reply_numbers(called.reply)
 }
 
 fn opened(
@@ -111,21 +84,9 @@ pub extern "C" fn federate_open(
 ) -> OpenedNumbers
     ensures { result ≡ opened_numbers (policy_of policy) enclaves.now revision generation }
 {
-    match policy {
-        0 => opened(enclaves, LifecyclePolicy::KeepAlive, revision, generation),
-        1 => opened(
-            enclaves,
-            LifecyclePolicy::TerminateWhenIdle,
-            revision,
-            generation,
-        ),
-        2 => opened(
-            enclaves,
-            LifecyclePolicy::CoordinatedTermination,
-            revision,
-            generation,
-        ),
-        3..=255 => no_policy(enclaves, revision, generation),
+    match LifecyclePolicy::try_from(policy) {
+        Ok(policy) => opened(enclaves, policy, revision, generation),
+        Err(_) => no_policy(enclaves, revision, generation),
     }
 }
 

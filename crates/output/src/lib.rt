@@ -21,7 +21,7 @@ pub fn list_script<W: Write>(out: &mut W, script: &[u8], room: &mut [u8]) -> io:
 {
     let opened = session::open(script);
     let refusal = opened.refusal;
-    if records::refusal_number(refusal) != 0 {
+    if refusal.is_some() {
         let refused = session::list_refusal(refusal, opened.place, room);
         return write_listing(out, room, refused);
     }

@@ -14,12 +14,10 @@ fn main(rt: HostRuntime) -> io::Result<()> {
     let mut out = io::writer(&rt);
     let mut text = room();
     let mut listing = room();
-    let mut scripts: u64 = 0;
-    while scripts < 100000 {
+    for _ in 0..100000 {
         if !output::list_next(&mut input, &mut out, &mut text, &mut listing)? {
             break;
         }
-        scripts += 1;
     }
     Ok(())
 }

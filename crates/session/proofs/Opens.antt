@@ -1,10 +1,10 @@
 -- A script opened, and the two lines that a run lists besides its events. Of the participants read the first 33 are kept: where there are at most 32 these
 -- are all of them, and where there are more both they and all of them are refused 5. So the opening of those kept is the opening of all. Assumes nothing.
-use Rattle.std.specs.Prelude.{None, Option, Some}
+use Rattle.std.specs.Prelude.{None, Option, Some, Result, Ok, Err}
 use Rattle.tags.specs.declared.Tag.{Tag}
 use mathlib.Core.Path.{◌≡◌, refl, sym, ap, ◌∙◌, subst}
 use mathlib.Core.Bool.{Bool, true, false, cond, ◌&&◌}
-use mathlib.Core.List.{List}
+use mathlib.Core.List.{List, []}
 use Prim.Native.Nat.{ℕ, ◌≤◌, ◌<◌, min}
 use native.Mathlib.Omega.{arith}
 use native.Mathlib.Nat.{min-le_left, min-eq_left, min-eq_right}
@@ -27,10 +27,11 @@ use Rattle.events.specs.Told.{padded}
 use Rattle.eventlines.proofs.Listed.{length-padded, take-padded}
 use Rattle.printing.specs.Runs.{Puts}
 use Rattle.listing.specs.Listing.{end_line}
+use Rattle.script.specs.declared.BadScript.{BadScript}
 use Rattle.script.specs.declared.ReadScript.{ReadScript}
 use Rattle.script.specs.Lines.{Reading, Bad, Good}
 use Rattle.script.specs.Script.{Script, script_of}
-use Rattle.script.specs.Read.{refused_at, answered, read_script_of}
+use Rattle.script.specs.Read.{bad_line, answered, read_script_of}
 use Rattle.run.specs.declared.Running.{Running}
 use Rattle.session.specs.declared.Opened.{Opened}
 use Rattle.session.specs.Open.{is_too_long, form_refusal, form_place, nowhere, start_by, script_refusal, script_place, start_of, OpensScript}
@@ -69,19 +70,25 @@ module _ (policy : LifecyclePolicy) (revision generation : ℕ) where
 
 -- ---- what the reading answers, by whether the script is too long and by its form
 
-abbrev reading : Bool → Reading Script → ReadScript
-reading long form = cond long (refused_at (Some ScriptTooLong) 0) (answered form)
+abbrev reading : Bool → Reading Script → Result ReadScript BadScript
+reading long form = cond long (Err (record { refusal = ScriptTooLong; place = 0 })) (answered form)
 
-counts : (long : Bool) (form : Reading Script) → (reading long form).count ≤ length (reading long form).participants
+abbrev lent : ReadScript → List ℕ
+lent r = take r.participants.count r.participants.indices
+
+counts : (long : Bool) (form : Reading Script) (r : ReadScript) → Ok r ≡ reading long form → r.participants.count ≤ length r.participants.indices
 unfolding answered
-counts true form = omega arith
-counts false (Bad place) = omega arith
-counts false (Good s last) = omega (arith, length-padded 33 s.participants, min-le_left 33 (length s.participants))
+counts true form r e = let z : ◌≡◌ {A = ℕ} 0 1 = cc in absurd (omega arith)
+counts false (Bad place) r e = let z : ◌≡◌ {A = ℕ} 0 1 = cc in absurd (omega arith)
+counts false (Good s last) r e =
+    let few : r.participants.count ≡ min 33 (length s.participants) = cc in
+    let all : r.participants.indices ≡ padded 33 s.participants = cc in
+    rw (few, all) (omega (arith, length-padded 33 s.participants, min-le_left 33 (length s.participants)))
 
 -- so many of the places are there to lend
-pub length-lent : (bytes : List ℕ) (r : ReadScript) → r ≡ read_script_of bytes → r.count ≡ length (take r.count r.participants)
+pub length-lent : (bytes : List ℕ) (r : ReadScript) → Ok r ≡ read_script_of bytes → r.participants.count ≡ length (lent r)
 unfolding read_script_of
-length-lent bytes r e = sym (length-take-le r.count r.participants (rw e (counts (is_too_long bytes) (script_of bytes))))
+length-lent bytes r e = sym (length-take-le r.participants.count r.participants.indices (counts (is_too_long bytes) (script_of bytes) r e))
 
 -- ---- the script opened, likewise
 
@@ -94,57 +101,63 @@ opens : (bytes : List ℕ) (x : Opened) → OpensBy (is_too_long bytes) (script_
 unfolding script_refusal script_place start_of
 opens bytes x o = record { refusal = o.refusal; place = o.place; start = o.start }
 
-abbrev OpensRead : ReadScript → Made → Type 0
-OpensRead r made = Opens (take r.count r.participants) r.policy r.revision r.generation made
+abbrev refused_of : BadScript → Opened
+refused_of b = record { refusal = Some b.refusal; place = b.place; start = nowhere }
 
-abbrev begun : ReadScript → Made → Running
-begun r made = record { state = made.state; at = r.events_at; events = r.events; left = r.events }
-
-abbrev refused_of : ReadScript → Made → Opened
-refused_of r made = record { refusal = r.refusal; place = r.place; start = begun r made }
-
--- what is refused tells of no participant, whose opening leaves the blank state
-refused-by : (long : Bool) (form : Reading Script) (made : Made) → (refusal_number (reading long form).refusal ≡ 0 → ⊥) → OpensRead (reading long form) made
-    → OpensBy long form (refused_of (reading long form) made)
-unfolding answered opening_refusal opened_held
-refused-by true form made refused o = record { refusal = refl; place = refl; start = ap (λ h. record { state = h; at = 0; events = 0; left = 0 }) o.state }
-refused-by false (Bad place) made refused o =
-    record { refusal = refl; place = refl; start = ap (λ h. record { state = h; at = 0; events = 0; left = 0 }) o.state }
-refused-by false (Good s last) made refused o = absurd (refused refl)
+refused-by : (long : Bool) (form : Reading Script) (b : BadScript) → Err b ≡ reading long form → OpensBy long form (refused_of b)
+unfolding answered
+refused-by true form b e =
+    let is : b ≡ record { refusal = ScriptTooLong; place = 0 } = cc in rw is (record { refusal = refl; place = refl; start = refl })
+refused-by false (Bad place) b e = let is : b ≡ bad_line place = cc in rw is (record { refusal = refl; place = refl; start = refl })
+refused-by false (Good s last) b e = let z : ◌≡◌ {A = ℕ} 0 1 = cc in absurd (omega arith)
 
 -- 12, or 11 at its place
-pub opens-refused : (bytes : List ℕ) (r : ReadScript) (number : ℕ) (made : Made) → r ≡ read_script_of bytes → number ≡ refusal_number r.refusal
-    → (number ≡ 0 → ⊥) → OpensRead r made → OpensScript bytes (refused_of r made)
+pub opens-refused : (bytes : List ℕ) (b : BadScript) (start : Running) → Err b ≡ read_script_of bytes → start ≡ nowhere
+    → OpensScript bytes (record { refusal = Some b.refusal; place = b.place; start = start })
 unfolding read_script_of
-opens-refused bytes r number made e n refused o =
-    subst (λ x. OpensScript bytes (refused_of x made)) (sym e)
-    (opens bytes (refused_of (read_script_of bytes) made)
-    (refused-by (is_too_long bytes) (script_of bytes) made (λ z. refused (n ∙ ap (λ x. refusal_number x.refusal) e ∙ z)) (subst (λ x. OpensRead x made) e o)))
+opens-refused bytes b start e n = rw n (opens bytes (refused_of b) (refused-by (is_too_long bytes) (script_of bytes) b e))
 
 abbrev opened_of : ReadScript → Made → Opened
-opened_of r made = record { refusal = made.refusal; place = r.place; start = begun r made }
+opened_of r made =
+    record { refusal = made.refusal; place = 0; start = record { state = made.state; at = r.events_at; events = r.events; left = r.events } }
 
-opened-by : (long : Bool) (form : Reading Script) (made : Made) → refusal_number (reading long form).refusal ≡ 0 → OpensRead (reading long form) made
-    → OpensBy long form (opened_of (reading long form) made)
+opened-by : (long : Bool) (form : Reading Script) (r : ReadScript) (made : Made) → Ok r ≡ reading long form
+    → Opens (lent r) r.policy r.revision r.generation made → OpensBy long form (opened_of r made)
 unfolding answered
-opened-by true form made z o = absurd (omega arith)
-opened-by false (Bad place) made z o = absurd (omega arith)
-opened-by false (Good s last) made z o = record {
-  refusal = o.refusal ∙ refusal-kept s.participants;
-  place = refl;
-  start =
-      ap (λ h. record { state = h; at = s.events_at; events = length s.events; left = length s.events })
-      (o.state ∙ held_kept s.policy s.revision s.generation s.participants);
-}
+opened-by true form r made e o = let z : ◌≡◌ {A = ℕ} 0 1 = cc in absurd (omega arith)
+opened-by false (Bad place) r made e o = let z : ◌≡◌ {A = ℕ} 0 1 = cc in absurd (omega arith)
+opened-by false (Good s last) r made e o = by r is o
+  where
+    abbrev all : ReadScript
+    all = record {
+      participants = record { indices = padded 33 s.participants; count = min 33 (length s.participants) };
+      policy = s.policy;
+      revision = s.revision;
+      generation = s.generation;
+      events_at = s.events_at;
+      events = length s.events;
+    }
+
+    is : r ≡ all
+    is = cc
+
+    made-by : Opens (lent all) all.policy all.revision all.generation made → OpensBy false (Good s last) (opened_of all made)
+    made-by o = record {
+      refusal = o.refusal ∙ refusal-kept s.participants;
+      place = refl;
+      start =
+          ap (λ h. record { state = h; at = s.events_at; events = length s.events; left = length s.events })
+          (o.state ∙ held_kept s.policy s.revision s.generation s.participants);
+    }
+
+    by : (x : ReadScript) → x ≡ all → Opens (lent x) x.policy x.revision x.generation made → OpensBy false (Good s last) (opened_of x made)
+    by x e o = subst (λ y. OpensBy false (Good s last) (opened_of y made)) (sym e) (made-by (subst (λ y. Opens (lent y) y.policy y.revision y.generation made) e o))
 
 -- as the opening
-pub opens-made : (bytes : List ℕ) (r : ReadScript) (number : ℕ) (made : Made) → r ≡ read_script_of bytes → number ≡ refusal_number r.refusal → number ≡ 0
-    → OpensRead r made → OpensScript bytes (opened_of r made)
+pub opens-made : (bytes : List ℕ) (r : ReadScript) (made : Made) → Ok r ≡ read_script_of bytes → Opens (lent r) r.policy r.revision r.generation made
+    → OpensScript bytes (opened_of r made)
 unfolding read_script_of
-opens-made bytes r number made e n z o =
-    subst (λ x. OpensScript bytes (opened_of x made)) (sym e)
-    (opens bytes (opened_of (read_script_of bytes) made)
-    (opened-by (is_too_long bytes) (script_of bytes) made (sym (n ∙ ap (λ x. refusal_number x.refusal) e) ∙ z) (subst (λ x. OpensRead x made) e o)))
+opens-made bytes r made e o = opens bytes (opened_of r made) (opened-by (is_too_long bytes) (script_of bytes) r made e o)
 
 -- ---- one line from byte 0 on
 
@@ -163,3 +176,9 @@ pub end-told : (s : Held) {phase : CoordinationPhase} {frontier horizon : Option
     → end_line s.coordination.revision phase s.completion.completion_generation frontier horizon settled ≡ last_line s
 unfolding last_line
 end-told s h b d e f = rw (h, b, d, e, f) refl
+
+-- ---- an opening of nobody
+
+pub nobody-blank : (policy : LifecyclePolicy) (revision generation : ℕ) → opened_held [] policy revision generation ≡ blank 0
+unfolding opened_held opening_refusal
+nobody-blank policy revision generation = refl

@@ -2,15 +2,17 @@
 // the Rust has no scripts. Refused as scripts are, 12, 11 with its place, then as the opening; a room too small for the line is left as it is.
 #![tactic(auto)]
 
+ghost use Rattle.std.specs.Prelude.{◌≡◌};
 ghost use Rattle.records.specs.Numbers.{refusal_number};
-ghost use Rattle.session.specs.Open.{OpensScript};
+ghost use Rattle.session.specs.Open.{nowhere, OpensScript};
 ghost use Rattle.session.specs.Listing.{refusal_line, last_line, Lists};
 
-use records::{CoordinationPhase, Refusal};
+use records::{CoordinationPhase, LifecyclePolicy, Refusal};
 use run::Running;
 use state::FederateCoordinationState;
 
-// A script opened: `Taken` and where its run begins; or why it was refused and, for 11, at which place.
+// A script opened: where its run begins; or why it was refused and, for 11, at which place.
+// Kept: no `Result`, since `OpensScript` says of a refused script too what state it leaves, the blank one (a).
 #[derive(Clone, Copy)]
 pub struct Opened {
     pub refusal: Option<Refusal>,
@@ -18,16 +20,37 @@ pub struct Opened {
     pub start: Running,
 }
 
+// Where the run of a refused script would begin: an opening of nobody leaves the blank state.
+fn nowhere() -> Running
+    ensures { result ≡ nowhere }
+{
+    let opened = opening::new(&[], LifecyclePolicy::KeepAlive, 0, 0);
+    let state = opened.state;
+    Running {
+        state,
+        at: 0,
+        events: 0,
+        left: 0,
+    }
+}
+
 // The script that the bytes are, opened: refused 12, 11 with its place, then as the opening.
 pub fn open(bytes: &[u8]) -> Opened
     ensures { OpensScript bytes.now result }
 {
-    let read = script::read_script(bytes);
+    let read = match script::read_script(bytes) {
+        Ok(read) => read,
+        Err(bad) => {
+            return Opened {
+                refusal: Some(bad.refusal),
+                place: bad.place,
+                start: nowhere(),
+            };
+        }
+    };
     let participants = read.participants;
-    let policy = read.policy;
-    let count = read.count;
-    let listed: &[u32] = &participants;
-    let opened = opening::new(&listed[..count], policy, read.revision, read.generation);
+    let listed: &[u32] = &participants.indices;
+    let opened = opening::new(&listed[..participants.count], read.policy, read.revision, read.generation);
     let state = opened.state;
     let start = Running {
         state,
@@ -35,13 +58,9 @@ pub fn open(bytes: &[u8]) -> Opened
         events: read.events,
         left: read.events,
     };
-    let mut refusal = read.refusal;
-    if records::refusal_number(refusal) == 0 {
-        refusal = opened.refusal;
-    }
     Opened {
-        refusal,
-        place: read.place,
+        refusal: opened.refusal,
+        place: 0,
         start,
     }
 }
@@ -53,6 +72,7 @@ pub fn list_refusal(refusal: Option<Refusal>, place: usize, out: &mut [u8]) -> u
     if out.len() < 160 {
         return 0;
     }
+    // Kept: by its number, as `refusal_line` has it; a match on the case would have to be told apart from the other 27 (d).
     if records::refusal_number(refusal) == 11 {
         return listing::put_misplaced(out, 0, place);
     }

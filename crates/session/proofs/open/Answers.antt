@@ -2,15 +2,11 @@
 use Rattle.session.proofs.Opens.{length-lent, opens-refused, opens-made}
 use Rattle.session.proofs.open.Goals as goal
 
+pub returns-in-Err : goal.returns-in-Err
+returns-in-Err c = opens-refused c.args.bytes.now c.in-Err.bad c.nowhere.result c.in-Err.ensures c.nowhere.ensures
+
 pub slice_bounds-new-end : goal.slice_bounds-new-end
-slice_bounds-new-end c = length-lent c.args.bytes.now c.read_script-read.result c.read_script-read.ensures
+slice_bounds-new-end c = length-lent c.args.bytes.now c.match-read_script.read ?
 
-pub returns-then-refusal_number-eq0 : goal.returns-then-refusal_number-eq0
-returns-then-refusal_number-eq0 c =
-    opens-made c.args.bytes.now c.read_script-read.result c.refusal_number.result c.new-opened.result
-    c.read_script-read.ensures c.refusal_number.ensures c.if-refusal_number-eq0.true c.new-opened.ensures
-
-pub returns-else-refusal_number-eq0 : goal.returns-else-refusal_number-eq0
-returns-else-refusal_number-eq0 c =
-    opens-refused c.args.bytes.now c.read_script-read.result c.refusal_number.result c.new-opened.result
-    c.read_script-read.ensures c.refusal_number.ensures c.if-refusal_number-eq0.false c.new-opened.ensures
+pub returns : goal.returns
+returns c = opens-made c.args.bytes.now ? c.new-opened.result ? c.new-opened.ensures
