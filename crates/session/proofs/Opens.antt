@@ -73,6 +73,16 @@ module _ (policy : LifecyclePolicy) (revision generation : ℕ) where
 abbrev reading : Bool → Reading Script → Result ReadScript BadScript
 reading long form = cond long (Err (record { refusal = ScriptTooLong; place = 0 })) (answered form)
 
+abbrev all_of : Script → ReadScript
+all_of s = record {
+  participants = record { indices = padded 33 s.participants; count = min 33 (length s.participants) };
+  policy = s.policy;
+  revision = s.revision;
+  generation = s.generation;
+  events_at = s.events_at;
+  events = length s.events;
+}
+
 abbrev lent : ReadScript → List ℕ
 lent r = take r.participants.count r.participants.indices
 
@@ -81,9 +91,8 @@ unfolding answered
 counts true form r e = let z : ◌≡◌ {A = ℕ} 0 1 = cc in absurd (omega arith)
 counts false (Bad place) r e = let z : ◌≡◌ {A = ℕ} 0 1 = cc in absurd (omega arith)
 counts false (Good s last) r e =
-    let few : r.participants.count ≡ min 33 (length s.participants) = cc in
-    let all : r.participants.indices ≡ padded 33 s.participants = cc in
-    rw (few, all) (omega (arith, length-padded 33 s.participants, min-le_left 33 (length s.participants)))
+    let is : r ≡ all_of s = cc in
+    rw is (omega (arith, length-padded 33 s.participants, min-le_left 33 (length s.participants)))
 
 -- so many of the places are there to lend
 pub length-lent : (bytes : List ℕ) (r : ReadScript) → Ok r ≡ read_script_of bytes → r.participants.count ≡ length (lent r)
@@ -121,40 +130,29 @@ abbrev opened_of : ReadScript → Made → Opened
 opened_of r made =
     record { refusal = made.refusal; place = 0; start = record { state = made.state; at = r.events_at; events = r.events; left = r.events } }
 
-opened-by : (long : Bool) (form : Reading Script) (r : ReadScript) (made : Made) → Ok r ≡ reading long form
-    → Opens (lent r) r.policy r.revision r.generation made → OpensBy long form (opened_of r made)
+abbrev OpensRead : ReadScript → Made → Type 0
+OpensRead r made = Opens (lent r) r.policy r.revision r.generation made
+
+made-by : (s : Script) (last : ℕ) (made : Made) → OpensRead (all_of s) made → OpensBy false (Good s last) (opened_of (all_of s) made)
+made-by s last made o = record {
+  refusal = o.refusal ∙ refusal-kept s.participants;
+  place = refl;
+  start =
+      ap (λ h. record { state = h; at = s.events_at; events = length s.events; left = length s.events })
+      (o.state ∙ held_kept s.policy s.revision s.generation s.participants);
+}
+
+opened-by : (long : Bool) (form : Reading Script) (r : ReadScript) (made : Made) → Ok r ≡ reading long form → OpensRead r made
+    → OpensBy long form (opened_of r made)
 unfolding answered
 opened-by true form r made e o = let z : ◌≡◌ {A = ℕ} 0 1 = cc in absurd (omega arith)
 opened-by false (Bad place) r made e o = let z : ◌≡◌ {A = ℕ} 0 1 = cc in absurd (omega arith)
-opened-by false (Good s last) r made e o = by r is o
-  where
-    abbrev all : ReadScript
-    all = record {
-      participants = record { indices = padded 33 s.participants; count = min 33 (length s.participants) };
-      policy = s.policy;
-      revision = s.revision;
-      generation = s.generation;
-      events_at = s.events_at;
-      events = length s.events;
-    }
-
-    is : r ≡ all
-    is = cc
-
-    made-by : Opens (lent all) all.policy all.revision all.generation made → OpensBy false (Good s last) (opened_of all made)
-    made-by o = record {
-      refusal = o.refusal ∙ refusal-kept s.participants;
-      place = refl;
-      start =
-          ap (λ h. record { state = h; at = s.events_at; events = length s.events; left = length s.events })
-          (o.state ∙ held_kept s.policy s.revision s.generation s.participants);
-    }
-
-    by : (x : ReadScript) → x ≡ all → Opens (lent x) x.policy x.revision x.generation made → OpensBy false (Good s last) (opened_of x made)
-    by x e o = subst (λ y. OpensBy false (Good s last) (opened_of y made)) (sym e) (made-by (subst (λ y. Opens (lent y) y.policy y.revision y.generation made) e o))
+opened-by false (Good s last) r made e o =
+    let is : r ≡ all_of s = cc in
+    subst (λ y. OpensBy false (Good s last) (opened_of y made)) (sym is) (made-by s last made (subst (λ y. OpensRead y made) is o))
 
 -- as the opening
-pub opens-made : (bytes : List ℕ) (r : ReadScript) (made : Made) → Ok r ≡ read_script_of bytes → Opens (lent r) r.policy r.revision r.generation made
+pub opens-made : (bytes : List ℕ) (r : ReadScript) (made : Made) → Ok r ≡ read_script_of bytes → OpensRead r made
     → OpensScript bytes (opened_of r made)
 unfolding read_script_of
 opens-made bytes r made e o = opens bytes (opened_of r made) (opened-by (is_too_long bytes) (script_of bytes) r made e o)

@@ -19,7 +19,7 @@ first_of : (budget : ℕ) (cs : List Call) → take (min budget (length cs)) cs 
 first_of budget cs =
     by_order budget (length cs)
     (λ h. rw (min-eq_left h) refl)
-    (λ h. rw (min-eq_right {m = budget} {n = length cs} (omega arith)) (take_all (length cs) cs (omega arith) ∙ sym (take_all budget cs (omega arith))))
+    (λ h. let all : min budget (length cs) ≡ length cs = min-eq_right (omega arith) in rw all (take_all (length cs) cs (omega arith) ∙ sym (take_all budget cs (omega arith))))
 
 pub lists-the-script : ListsTheScript
 unfolding listing_of start_of

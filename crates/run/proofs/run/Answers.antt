@@ -22,8 +22,8 @@ small c =
 pub overflow_add-number : goal.overflow_add-number
 overflow_add-number c = record { fits = omega (arith, small c) }
 
-pub overflow_add-number-2 : goal.overflow_add-number-2
-overflow_add-number-2 c = record { fits = small c }
+pub overflow_add-number-in-loop-taken : goal.overflow_add-number-in-loop-taken
+overflow_add-number-in-loop-taken c = record { fits = small c }
 
 pub loop-taken-preserved : goal.loop-taken-preserved
 loop-taken-preserved c = turns-on _ _ _ _ _ _ _ _ _ _ _ _ c.loop-taken-test.true c.loop-taken.invariant c.in-Some.stepped _ refl c.in-Some.ensures

@@ -10,7 +10,7 @@ use Rattle.run.proofs.step.Goals as goal
 
 pub returns-then-not-is_ended : goal.returns-then-not-is_ended
 returns-then-not-is_ended c = let a = c.args in
-    unended a.script.now a.at a.state a.number a.written a.out.now _ refl _ c.is_ended.ensures c.if-not-is_ended.true
+    unended a.script.now a.at a.state a.number a.written a.out.now _ refl _ c.is_ended.ensures (ap not c.if-not-is_ended.true)
 
 pub returns-in_err-event : goal.returns-in_err-event
 returns-in_err-event c = let a = c.args in
@@ -23,6 +23,6 @@ returns c = let a = c.args in
     let line = c.line_from-line.result.now in
     let told = c.in_ok-event.ensures in
     let names = c.enclaves-enclaves.ensures in
-    an-event a.script.now a.at a.state a.number a.written a.out.now _ _ _ c.is_ended.ensures c.if-not-is_ended.false
+    an-event a.script.now a.at a.state a.number a.written a.out.now _ _ _ c.is_ended.ensures (ap not c.if-not-is_ended.false)
     _ c.place_after.ensures (call_told event (enclaves_of line)) (ap event_of (sym c.line_from-line.ensures) ∙ sym told)
-    (subst (λ es. ListsBy (call_told event es) a.state a.number a.written a.out.now _ _) names c.list_event-listed.ensures)
+    (subst (λ es. ListsBy (call_told event es) a.state a.number a.written a.out.now c.list_event-listed.new.out c.list_event-listed.result) names c.list_event-listed.ensures)

@@ -6,7 +6,7 @@ pub returns-in-Err : goal.returns-in-Err
 returns-in-Err c = opens-refused c.args.bytes.now c.in-Err.bad c.nowhere.result c.in-Err.ensures c.nowhere.ensures
 
 pub slice_bounds-new-end : goal.slice_bounds-new-end
-slice_bounds-new-end c = length-lent c.args.bytes.now c.match-read_script.read ?
+slice_bounds-new-end c = length-lent c.args.bytes.now c.in-Ok.read c.in-Ok.ensures
 
 pub returns : goal.returns
-returns c = opens-made c.args.bytes.now ? c.new-opened.result ? c.new-opened.ensures
+returns c = opens-made c.args.bytes.now c.in-Ok.read c.new-opened.result c.in-Ok.ensures c.new-opened.ensures
