@@ -6,10 +6,9 @@ use mathlib.Core.Bool.{Bool, true, false, not, cond, ◌&&◌}
 use mathlib.Core.List.{List, []}
 use Prim.Native.Nat.{ℕ}
 use native.Mathlib.Omega.{arith}
-use lib.Dec.{T, leb, eqb}
-use lib.ListN.{length, take}
-use lib.Seq.{take_all}
-use borrow.Author.Tests.{le-leb, lt-leb, eqb-true}
+use lib.Dec.{T, eqb}
+use lib.ListN.{length}
+use borrow.Author.Tests.{eqb-true}
 use Rattle.octets.specs.Runs.{put_at}
 use Rattle.octets.proofs.Runs.{put-nil}
 use Rattle.actions.specs.Record.{records_of}
@@ -27,22 +26,8 @@ use Rattle.calls.specs.declared.Reply.{Reply}
 use Rattle.calls.specs.declared.Called.{Called}
 use Rattle.calls.proofs.Refusals.{passes}
 use Rattle.calls.specs.Called.{Promised, lent, refusal_of, state_of, actions_of, answer_of}
-use Rattle.numerals.proofs.Splits.{by_order}
 use Rattle.gate.specs.Replies.{Replies}
-use Rattle.events.specs.declared.Event.{Event}
-use Rattle.events.specs.declared.Event.TheVariants.{Input}
-use Rattle.events.specs.Told.{told_event}
-use Rattle.records.specs.declared.SchedulerMessage.{SchedulerMessage}
-use Rattle.dispatch.specs.Messages.{call_of}
-use Rattle.take.specs.Takes.{Takes, TakesCall}
-
--- the event is this one, and this one tells the call
-pub takes-as : (x y : Event) (es : List ℕ) (c : Call) → x ≡ y → told_event y es ≡ Some c → (s : Held) (before after : List ℕ) (r : Called) → TakesCall c s before after r → Takes (told_event x es) s before after r
-takes-as x y es c e t s before after r h = subst (λ o. Takes o s before after r) (sym (ap (λ z. told_event z es) e ∙ t)) h
-
--- so does the event of a scheduler's message
-pub told-as : (x y : Event) (es : List ℕ) (m n : SchedulerMessage) → x ≡ y → m ≡ n → told_event y es ≡ Some (call_of n) → told_event x es ≡ Some (call_of m)
-told-as x y es m n e f t = ap (λ z. told_event z es) e ∙ t ∙ sym (ap (λ z. Some (call_of z)) f)
+use Rattle.take.specs.Takes.{TakesCall}
 
 -- ---- calls that take no room
 
@@ -131,14 +116,3 @@ module _ (c : Call) (s : Held) (sized : Sized s) (same : (take_step c (view s)).
       either : (b : Bool) → eqb (refusal_of (lent 0 c) s) 0 ≡ b → s ≡ cond b (put s (take_step c (view s)).state) s
       either true e = sym (ap (put s) same ∙ kept (eqb-true (refusal_of (lent 0 c) s) 0 e))
       either false e = refl
-
--- ---- the enclaves that an `input` event names
-
-pub at-most-length : (n : ℕ) (es : List ℕ) → take (cond (leb n (length es)) n (length es)) es ≡ take n es
-at-most-length n es = by_order n (length es) (λ h. rw (le-leb n (length es) h) refl) (λ h. rw (lt-leb n (length es) h) (take_all (length es) es (omega arith) ∙ sym (take_all n es (omega arith))))
-
--- the part of the list that was lent is what the event names
-pub takes-input : (x : Event) (n k : ℕ) (es part : List ℕ) → x ≡ Input n → k ≡ cond (leb n (length es)) n (length es) → part ≡ take k es → (s : Held) (room : List ℕ) (r : Called)
-    → Promised (lent 0 (input part)) s r → Takes (told_event x es) s room room r
-takes-input x n k es part e f g s room r p =
-    takes-as x (Input n) es (input part) e (ap (λ l. Some (input l)) (sym (g ∙ ap (λ m. take m es) f ∙ at-most-length n es))) s room room r (without-room (input part) s room r refl (input-silent (view s) part) p)

@@ -13,12 +13,15 @@ use state::FederateCoordinationState;
 // The call that the event tells, with the enclaves that an `input` line names.
 pub fn take(
     state: FederateCoordinationState,
-    event: Event,
+    event: Option<Event>,
     listed: &[u32],
     room: &mut [u8],
 ) -> Called
     ensures { Takes (told_event event listed.now) state room.old room.new result }
 {
+    let Some(event) = event else {
+        return calls::with_reply(state, Some(Refusal::ScriptOutOfForm), None, 0);
+    };
     let message = match event {
         Event::Active(enclave) => SchedulerMessage::Active { enclave },
         Event::Publish(enclave, next_event) => SchedulerMessage::Publish {
@@ -36,9 +39,6 @@ pub fn take(
         },
         Event::Stopped(enclave) => SchedulerMessage::ParticipantStopped { enclave },
         Event::Failed(enclave) => SchedulerMessage::Failed { enclave },
-        Event::NoEvent => {
-            return calls::with_reply(state, Some(Refusal::ScriptOutOfForm), None, 0);
-        }
         Event::Acquire(revision, granted) => {
             let acquisition = FederateAcquisition { revision, granted };
             return acquisition::handle_acquisition(state, acquisition, room);
@@ -69,12 +69,8 @@ pub fn take(
             return Called { state, reply };
         }
         Event::Input(count) => {
-            let n = if count <= listed.len() {
-                count
-            } else {
-                listed.len()
-            };
-            return gate::input_publishing(state, &listed[..n]);
+            let named = count.min(listed.len());
+            return gate::input_publishing(state, &listed[..named]);
         }
         Event::Progress => return acquisition::input_progress(state, room),
     };
