@@ -49,11 +49,9 @@ fn opened(
     ensures { result ≡ opened_numbers (Some policy) enclaves.now revision generation }
 {
     let opening = opening::new(enclaves, policy, revision, generation);
-    let refusal = opening.refusal;
-    let state = opening.state;
     OpenedNumbers {
-        refusal: records::refusal_number(refusal),
-        state,
+        refusal: records::refusal_number(opening.refusal),
+        state: opening.state,
     }
 }
 
@@ -61,16 +59,10 @@ fn opened(
 fn no_policy(enclaves: &[u32], revision: u64, generation: u64) -> OpenedNumbers
     ensures { result ≡ opened_numbers None enclaves.now revision generation }
 {
-    let nobody = opening::new(
-        &enclaves[..0],
-        LifecyclePolicy::KeepAlive,
-        revision,
-        generation,
-    );
-    let state = nobody.state;
+    let nobody = opening::new(&[], LifecyclePolicy::KeepAlive, revision, generation);
     OpenedNumbers {
-        refusal: records::refusal_number(Some(Refusal::ScriptOutOfForm)),
-        state,
+        refusal: u8::from(Refusal::ScriptOutOfForm),
+        state: nobody.state,
     }
 }
 
@@ -107,6 +99,5 @@ pub extern "C" fn federate_ask(
 pub extern "C" fn federate_read_action(bytes: &[u8]) -> ActionNumbers
     ensures { result ≡ read_numbers (read_action bytes.now) }
 {
-    let found = actions::read_action(bytes);
-    plain::read_numbers(found)
+    plain::read_numbers(actions::read_action(bytes))
 }

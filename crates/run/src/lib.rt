@@ -58,13 +58,17 @@ fn list_event(
     let mut room: [u8; 1904] = [0; 1904];
     let called = take::take(state, Some(event), listed, &mut room);
     let reply = called.reply;
-    let next = called.state;
-    let refusal = reply.refusal;
-    let answer = reply.answer;
-    let told = listing::put_event(out, written, number, refusal, answer, reply.actions);
+    let told = listing::put_event(
+        out,
+        written,
+        number,
+        reply.refusal,
+        reply.answer,
+        reply.actions,
+    );
     let after = listing::put_actions(out, told, &room, reply.actions);
     Listed {
-        state: next,
+        state: called.state,
         written: after,
     }
 }
@@ -88,9 +92,8 @@ fn step(
     let event = eventlines::read_event(line)?;
     let enclaves = eventlines::enclaves(line);
     let listed = list_event(state, event, &enclaves, number, out, written);
-    let next = listed.state;
     Some(Stepped {
-        state: next,
+        state: listed.state,
         at: reader::place_after(script, at),
         written: listed.written,
     })

@@ -25,9 +25,8 @@ fn nowhere() -> Running
     ensures { result ≡ nowhere }
 {
     let opened = opening::new(&[], LifecyclePolicy::KeepAlive, 0, 0);
-    let state = opened.state;
     Running {
-        state,
+        state: opened.state,
         at: 0,
         events: 0,
         left: 0,
@@ -50,18 +49,21 @@ pub fn open(bytes: &[u8]) -> Opened
     };
     let participants = read.participants;
     let listed: &[u32] = &participants.indices;
-    let opened = opening::new(&listed[..participants.count], read.policy, read.revision, read.generation);
-    let state = opened.state;
-    let start = Running {
-        state,
-        at: read.events_at,
-        events: read.events,
-        left: read.events,
-    };
+    let opened = opening::new(
+        &listed[..participants.count],
+        read.policy,
+        read.revision,
+        read.generation,
+    );
     Opened {
         refusal: opened.refusal,
         place: 0,
-        start,
+        start: Running {
+            state: opened.state,
+            at: read.events_at,
+            events: read.events,
+            left: read.events,
+        },
     }
 }
 
@@ -88,25 +90,13 @@ pub fn list_end(state: FederateCoordinationState, out: &mut [u8]) -> usize
         return 0;
     }
     if !soundness::is_sound(&state) {
-        let phase = CoordinationPhase::Active;
-        return listing::put_end(
-            out,
-            0,
-            0,
-            phase,
-            0,
-            None,
-            None,
-            false,
-        );
+        return listing::put_end(out, 0, 0, CoordinationPhase::Active, 0, None, None, false);
     }
     let coordination = state.coordination;
     let completion = state.completion;
-    let frontier = completion.completed_frontier;
-    let horizon = state.grant_horizon;
     let phase = queries::phase_of(coordination.phase);
-    let completed = state::optional_of(frontier);
-    let granted = state::optional_of(horizon);
+    let completed = state::optional_of(completion.completed_frontier);
+    let granted = state::optional_of(state.grant_horizon);
     let settled = queries::no_publication_and_no_probe(coordination, completion);
     listing::put_end(
         out,

@@ -4,4 +4,4 @@ use Rattle.exports.proofs.Numbered.{nobody-blank}
 use Rattle.exports.proofs.no_policy.Goals as goal
 
 pub returns : goal.returns
-returns c = rw (c.refusal_number.ensures, c.new-nobody.ensures.state ∙ nobody-blank _ _ _)
+returns c = rw (c.from.ensures, c.new-nobody.ensures.state ∙ nobody-blank _ _ _)
