@@ -1,13 +1,12 @@
 // Action bytes (document 01, "Action record, 56 bytes, little-endian"): writes actions into lent room and reads them back.
-// New here: the Rust hands out a `Vec` of actions. `write_action` answers no where the record does not fit, and so do the writers of the kinds with tags;
-// `read_action` refuses with 28 what is no action's record.
+// New here: the Rust hands out a `Vec` of actions. `write_action` answers no where the record does not fit; `read_action` refuses with 28 what is no
+// action's record.
 #![tactic(auto)]
 
 ghost use Rattle.std.specs.Prelude.{◌≡◌, ◌+◌, ◌*◌, ◌≤◌, ◌<◌, ◌&&◌, length, take, get_or};
 ghost use Rattle.octets.specs.Runs.{put_at, fits_at, written, same_bytes};
 ghost use Rattle.actions.specs.Record.{fields_of, head_bytes, tag_bytes, optional_bytes, bytes_of, record_of, proper_action};
 ghost use Rattle.actions.specs.Reading.{tag_at, publication_at, candidate_of, read_action};
-ghost use Rattle.records.specs.declared.CoordinationAction.TheVariants.{Publish, AdvanceHorizon, Grant, Complete};
 
 use records::{CoordinationAction, FederateCompletion, FederatePublication, Refusal};
 use tags::Tag;
@@ -119,6 +118,7 @@ fn optional_bytes(m: Option<Tag>) -> [u8; 20]
     m.map_or([0; 20], tag_bytes)
 }
 
+// Kept: three runs put into the room. All 56 bytes as one array, then put by `octets::copy_at`, took 47 instructions more a record.
 fn put_fields(room: &mut [u8], at: usize, f: Fields)
     requires { at + 56 ≤ length room.old }
     ensures { room.new ≡ put_at room.old at (bytes_of f) }
@@ -146,38 +146,6 @@ pub fn write_action(room: &mut [u8], place: usize, action: CoordinationAction) -
     ensures bytes { room.new ≡ written room.old (56 * place) (record_of action) }
 {
     write_fields(room, place, fields_of(action))
-}
-
-// As `write_action` does for Publish.
-pub fn write_publication(room: &mut [u8], place: usize, publication: FederatePublication) -> bool
-    ensures value { result ≡ fits_at room.old (56 * place) (record_of (Publish publication)) }
-    ensures bytes { room.new ≡ written room.old (56 * place) (record_of (Publish publication)) }
-{
-    write_action(room, place, CoordinationAction::Publish(publication))
-}
-
-// As `write_action` does for AdvanceHorizon.
-pub fn write_horizon(room: &mut [u8], place: usize, tag: Tag) -> bool
-    ensures value { result ≡ fits_at room.old (56 * place) (record_of (AdvanceHorizon tag)) }
-    ensures bytes { room.new ≡ written room.old (56 * place) (record_of (AdvanceHorizon tag)) }
-{
-    write_action(room, place, CoordinationAction::AdvanceHorizon { tag })
-}
-
-// As `write_action` does for Grant.
-pub fn write_grant(room: &mut [u8], place: usize, enclave: u32, tag: Tag) -> bool
-    ensures value { result ≡ fits_at room.old (56 * place) (record_of (Grant enclave tag)) }
-    ensures bytes { room.new ≡ written room.old (56 * place) (record_of (Grant enclave tag)) }
-{
-    write_action(room, place, CoordinationAction::Grant { enclave, tag })
-}
-
-// As `write_action` does for Complete.
-pub fn write_completion(room: &mut [u8], place: usize, completion: FederateCompletion) -> bool
-    ensures value { result ≡ fits_at room.old (56 * place) (record_of (Complete completion)) }
-    ensures bytes { room.new ≡ written room.old (56 * place) (record_of (Complete completion)) }
-{
-    write_action(room, place, CoordinationAction::Complete(completion))
 }
 
 fn tag_at(s: &[u8], at: usize) -> Tag

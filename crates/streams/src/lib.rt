@@ -8,6 +8,7 @@ use std::io;
 use std::io::Read;
 
 // Reads until the buffer is full or the input ends: how many bytes came, from the front on.
+// Kept: a `while` by how much came. `read_exact` does not say how much came before the end, and `read_to_end` allocates, which a rule of the project rules out.
 pub fn read_full<R: Read>(input: &mut R, buf: &mut [u8]) -> io::Result<usize>
     ensures bound { IfOk result (λ n. n ≤ length buf.new) }
     ensures bytes { IfOk result (λ n. Consumes (R.remaining input.old) (R.remaining input.new) (take n buf.new)) }
