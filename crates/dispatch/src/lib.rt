@@ -11,7 +11,7 @@ ghost use Rattle.state.specs.View.{represents};
 ghost use Rattle.state.specs.Decides.{Aside, Decides, announces, neat_parts};
 ghost use Rattle.dispatch.specs.Messages.{call_of, Names, enclave_of, tag_of, about_completion, drops, Concludes};
 
-use records::{FederateCompletion, SchedulerMessage};
+use records::{CoordinationPhase, FederateCompletion, SchedulerMessage};
 use state::{Completion, Coordination, Decided, FederateCoordinationState, Next, Notice, Parts};
 use tags::Tag;
 
@@ -75,11 +75,11 @@ pub fn participant_stopped(parts: Parts) -> Decided
     ensures neat { T (neat_parts parts) → T (neat_parts result.parts) }
 {
     let c = parts.coordination;
-    if c.phase == 6 {
+    if c.phase == u8::from(CoordinationPhase::Stopped) {
         return publication::says(parts, None);
     }
     let mut next = parts;
-    next.coordination = state::without_pending(c, 6);
+    next.coordination = state::without_pending(c, u8::from(CoordinationPhase::Stopped));
     publication::says(next, Some(Notice::Stop))
 }
 
@@ -89,11 +89,11 @@ pub fn fail(parts: Parts, enclave: Option<u32>) -> Decided
     ensures neat { T (neat_parts parts) → T (neat_parts result.parts) }
 {
     let c = parts.coordination;
-    if c.phase == 6 {
+    if c.phase == u8::from(CoordinationPhase::Stopped) {
         return publication::says(parts, None);
     }
     let mut next = parts;
-    next.coordination = state::without_pending(c, 6);
+    next.coordination = state::without_pending(c, u8::from(CoordinationPhase::Stopped));
     next.failed = enclave.is_some();
     next.first_failure = enclave.unwrap_or(0);
     publication::says(next, Some(Notice::Abort))

@@ -11,7 +11,7 @@ ghost use Rattle.emission.specs.Written.{Adds};
 
 use completion::{Advanced, Saying};
 use dispatch::Said;
-use records::{CoordinationAction, FederatePublication};
+use records::{CoordinationAction, CoordinationPhase, FederatePublication};
 use state::{COMPLETED, Coordination, FederateCoordinationState, Notice};
 use tags::Tag;
 
@@ -95,7 +95,7 @@ fn add_announcement(room: &mut [u8], c: Coordination, resumes: bool, enclave: u3
         grant_horizon: state::optional_of(c.pending_grant_horizon),
     };
     let resume = resumes.then_some(Notice::Resume);
-    let probe = (c.phase == 1).then_some(Notice::Probe);
+    let probe = (c.phase == u8::from(CoordinationPhase::Probing)).then_some(Notice::Probe);
     let published = add(room, 0, CoordinationAction::Publish(publication));
     let resumed = add_notice(room, published, resume, enclave, c.revision);
     add_notice(room, resumed, probe, enclave, c.revision)

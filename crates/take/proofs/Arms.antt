@@ -1,7 +1,7 @@
 -- Each arm of `take`: what its call promises is what taking the event promises. A call of the gate takes no room and has no actions, so it promises the
 -- same of any room, which it leaves as it was. Assumes nothing.
-use Rattle.std.specs.Prelude.{Option, Some}
-use mathlib.Core.Path.{◌≡◌, refl, sym, ap, ◌∙◌, subst, subst⁻¹}
+use Rattle.std.specs.Prelude.{Option}
+use mathlib.Core.Path.{◌≡◌, refl, sym, ap, ◌∙◌, subst⁻¹}
 use mathlib.Core.Bool.{Bool, true, false, not, cond, ◌&&◌}
 use mathlib.Core.List.{List, []}
 use Prim.Native.Nat.{ℕ}
