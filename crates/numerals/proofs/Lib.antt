@@ -1,3 +1,4 @@
 pub mod Splits
 pub mod Numbers
 pub mod Integers
+pub mod Tags

@@ -1,5 +1,4 @@
 -- A text split at every byte c is what stands before the first one, and the split of what stands after it. Assumes nothing.
-use Rattle.std.specs.Prelude.{None}
 use mathlib.Core.Path.{◌≡◌, refl}
 use mathlib.Core.Bool.{Bool, true, false}
 use mathlib.Core.List.{List, [], ◌∷◌}
@@ -11,7 +10,7 @@ use native.Mathlib.Decide.{dec_le}
 use lib.Dec.{eqb}
 use lib.ListN.{length, take, drop, length-drop}
 use lib.Seq.{take_all}
-use Rattle.numerals.specs.Numerals.{split, colon, three_numbers}
+use Rattle.numerals.specs.Numerals.{split}
 use Rattle.numerals.specs.Told.{until}
 
 -- by cases on a test, and on an order
@@ -50,9 +49,3 @@ module _ (c : ℕ) (l : List ℕ) (a : ℕ) (found : a ≡ until c l) where
 -- a split has a first part
 pub split-some : (P : List (List ℕ) → Type 0) (c : ℕ) (l : List ℕ) → ((p : List ℕ) (ps : List (List ℕ)) → P (p ∷ ps)) → P (split c l)
 split-some P c l f = by_order (length l) (until c l) (λ h. rw (split-none c l h) (f l [])) (λ h. rw (split-first c l h) (f _ _))
-
--- a tag has no fourth part
-pub four-parts : (s n rest : List ℕ) (a : ℕ) → a ≡ until colon rest → a < length rest → None ≡ three_numbers (s ∷ n ∷ split colon rest)
-four-parts s n rest a found h =
-    rw (split_at colon rest a found h)
-    (split-some (λ ps. None ≡ three_numbers (s ∷ n ∷ take a rest ∷ ps)) colon (drop (a + 1) rest) (λ p ps. refl))

@@ -2,8 +2,8 @@
 // A text that is no such number or tag is answered by none; nothing else is refused.
 #![tactic(auto)]
 
-ghost use Rattle.std.specs.Prelude.{◌≡◌, ◌∷◌, ◌^◌, ◌≤◌, ◌<◌, length};
-ghost use Rattle.numerals.specs.Numerals.{split, colon, number_of, negated, unsigned, integer_of, three_numbers, tag_of, optional_tag_of};
+ghost use Rattle.std.specs.Prelude.{◌≡◌, [], ◌∷◌, MatchOption, ◌-◌, ◌^◌, ◌≤◌, ◌<◌, length};
+ghost use Rattle.numerals.specs.Numerals.{split, colon, number_of, negated, unsigned, integer_of, joined, tag_of, optional_tag_of};
 ghost use Rattle.numerals.specs.Told.{until, digits_of};
 
 use tags::Tag;
@@ -69,39 +69,39 @@ fn integer(t: &[u8], half: u64) -> Option<i64>
     }
 }
 
-fn tag_of_parts(s: &[u8], n: &[u8], rest: &[u8]) -> Option<Tag>
-    ensures { result ≡ three_numbers (s.now ∷ n.now ∷ split colon rest.now) }
+// The tag of these three numbers, each of its width.
+fn joined(s: &[u8], n: &[u8], m: &[u8]) -> Option<Tag>
+    ensures { result ≡ joined (integer_of (2 ^ 63) s.now) (integer_of (2 ^ 31) n.now) (number_of (2 ^ 64 - 1) m.now) }
 {
-    let c = find(rest, b':');
-    if c < rest.len() {
-        return None;
-    }
     Some(Tag {
         seconds: integer(s, 1 << 63)?,
         nanoseconds: integer(n, 1 << 31)? as i32,
-        microstep: number(rest, u64::MAX)?,
+        microstep: number(m, u64::MAX)?,
     })
 }
 
-fn tag_after(s: &[u8], rest: &[u8]) -> Option<Tag>
-    ensures { result ≡ three_numbers (s.now ∷ split colon rest.now) }
+// What stands before the first colon, and what stands after it.
+fn cut(t: &[u8]) -> Option<(&[u8], &[u8])>
+    ensures { MatchOption result (split colon t.now ≡ t.now ∷ []) (λ p. split colon t.now ≡ p.0.now ∷ split colon p.1.now) }
 {
-    let b = find(rest, b':');
-    if rest.len() <= b {
-        return None;
+    let a = find(t, b':');
+    if a < t.len() {
+        Some((&t[..a], &t[a + 1..]))
+    } else {
+        None
     }
-    tag_of_parts(s, &rest[..b], &rest[b + 1..])
 }
 
 // The tag that the text spells.
 pub fn tag(t: &[u8]) -> Option<Tag>
     ensures { result ≡ tag_of t.now }
 {
-    let a = find(t, b':');
-    if t.len() <= a {
+    let (s, rest) = cut(t)?;
+    let (n, m) = cut(rest)?;
+    if cut(m).is_some() {
         return None;
     }
-    tag_after(&t[..a], &t[a + 1..])
+    joined(s, n, m)
 }
 
 // The tag that the text spells, where `-` says that it is absent.

@@ -1,17 +1,20 @@
--- `numerals::tag` meets its contract: one part makes no tag, and more are told by the first colon. Assumes nothing.
-use mathlib.Core.Path.{◌∙◌}
-use native.Mathlib.Omega.{arith}
-use Rattle.numerals.specs.Numerals.{colon, tag_of}
-use Rattle.numerals.proofs.Splits.{part-rest, split_at, split-whole}
+-- `numerals::tag` meets its contract: what the parts of the text make (Tags). Assumes nothing.
+use Rattle.std.proofs.Common.{sym, ◌∙◌}
+use Rattle.numerals.proofs.Tags.{cut-alone, one_part, two_parts, three_parts, four_parts}
 use Rattle.numerals.proofs.tag.Goals as goal
 
-pub returns-then-t-a : goal.returns-then-t-a
-unfolding tag_of
-returns-then-t-a c = let a = c.args in
-    rw (split-whole colon a.t.now c.find-a.result c.find-a.ensures.0 c.if-t-a.true)
+pub returns-in_err-s : goal.returns-in_err-s
+returns-in_err-s c = c.from_residual.ensures ∙ one_part c.args.t.now c.in_err-s.ensures
+
+pub returns-in_err-n : goal.returns-in_err-n
+returns-in_err-n c = c.from_residual-in_err-n.ensures ∙ two_parts c.args.t.now c.in_ok-s.s.now c.in_ok-s.rest.now c.in_ok-s.ensures c.in_err-n.ensures
+
+pub returns-then-is_some : goal.returns-then-is_some
+returns-then-is_some c =
+    four_parts c.args.t.now c.in_ok-s.s.now c.in_ok-s.rest.now c.in_ok-s.ensures c.in_ok-n.n.now c.in_ok-n.m.now c.in_ok-n.ensures c.cut-3.result c.cut-3.ensures
+    (sym c.is_some.ensures ∙ c.if-is_some.true)
 
 pub returns : goal.returns
-unfolding tag_of
-returns c = let f = c.find-a in
-    let a = c.args in
-    c.tag_after.ensures ∙ rw (part-rest, split_at colon a.t.now f.result f.ensures.0 (omega arith))
+returns c =
+    let last = cut-alone c.in_ok-n.m.now c.cut-3.result c.cut-3.ensures (sym c.is_some.ensures ∙ c.if-is_some.false) in
+    c.joined.ensures ∙ sym (three_parts c.args.t.now c.in_ok-s.s.now c.in_ok-s.rest.now c.in_ok-s.ensures c.in_ok-n.n.now c.in_ok-n.m.now c.in_ok-n.ensures last)
