@@ -8,7 +8,6 @@ use Prim.Native.Nat.{ℕ, ◌+◌, ◌≤◌, ◌<◌}
 use native.Mathlib.Omega.{arith}
 use lib.Dec.{T}
 use lib.IntN.{pos}
-use lib.ListN.{get_or}
 use Rattle.tags.specs.Tags.{◌≤ₜ◌, within, is_proper}
 use Rattle.rules.specs.Model.{Tag, begin}
 use Rattle.rules.specs.Set.{with_started}
@@ -16,7 +15,7 @@ use Rattle.rules.specs.Walk.{knows, at, only, quiet, is_stopped}
 use Rattle.rules.specs.Gate.{may_begin, begun, begin_tag_of}
 use Rattle.rules.specs.Calls.{own_step, take_step}
 use Rattle.state.specs.declared.FederateCoordinationState.{FederateCoordinationState as Held}
-use Rattle.state.specs.Cells.{is_absent, optional_of, is_neat, number_if, observation_of}
+use Rattle.state.specs.Cells.{is_absent, optional_of, is_neat}
 use Rattle.state.specs.View.{tag_at, row_at, rows_of, view, represents}
 use Rattle.state.specs.Parts.{Seated}
 use Rattle.state.specs.Decides.{Good}
@@ -93,16 +92,8 @@ module _ (s : Held) (e i : ℕ) (t : Tag) (g : Good s) (few : s.count ≤ 32) (d
       tag-set-same s.seconds s.nanoseconds s.microsteps (64 + i) t z.seconds z.nanoseconds z.microsteps (let w = d.within in omega arith)
 
   row_by : (j : ℕ) (m : Option Tag) → j < 32 → optional_of (tag_at then (64 + j)) ≡ m → row_at then j ≡ with_started m (row_at s j)
-  row_by j m h q = λ k. record {
-    index = get_or s.enclaves j 0;
-    candidate = optional_of (other j (λ z. omega arith) k);
-    completed = optional_of (other (32 + j) (λ z. omega arith) k);
-    published = get_or s.published j false;
-    completion_observed = number_if (get_or s.acknowledged j false) (get_or s.completion_observed j 0);
-    observation = observation_of (get_or s.observation j 0);
-    granted = optional_of s.gate.granted;
-    started = q k;
-  }
+  row_by j m h q =
+      λ k. record (row_at s j) { candidate = optional_of (other j (λ z. omega arith) k); completed = optional_of (other (32 + j) (λ z. omega arith) k); started = q k }
 
   started-rows : rows_of then ≡ map (at e (with_started (Some t))) (rows_of s)
   started-rows =
@@ -111,22 +102,7 @@ module _ (s : Held) (e i : ℕ) (t : Tag) (g : Good s) (few : s.count ≤ 32) (d
       (λ j l n. row_by j (optional_of (tag_at s (64 + j))) (omega arith) (ap optional_of (other (64 + j) (λ z. n (omega arith)))))
 
   pub started-view : only e (with_started (Some t)) (view s) ≡ view then
-  started-view = λ k. record {
-    participants = sym started-rows k;
-    lifecycle = (view s).lifecycle;
-    phase = (view s).phase;
-    revision = (view s).revision;
-    idle_authorization = (view s).idle_authorization;
-    pending_publication = (view s).pending_publication;
-    grant_horizon = (view s).grant_horizon;
-    completed_frontier = (view s).completed_frontier;
-    pending_inputs = (view s).pending_inputs;
-    completion_generation = (view s).completion_generation;
-    completion_probe = (view s).completion_probe;
-    first_failure = (view s).first_failure;
-    input_horizon = (view s).input_horizon;
-    input_acquisition = (view s).input_acquisition;
-  }
+  started-view = λ k. record (view s) { participants = sym started-rows k }
 
   neat-tag : (k : ℕ) → k < 96 → T (is_neat (tag_at s k)) → T (is_neat (tag_at then k))
   neat-tag k h old =

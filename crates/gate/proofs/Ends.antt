@@ -108,7 +108,7 @@ ends-asked c t k s q n is h x y e = promised-refused (lent 0 c) s n x (asks-numb
 
 -- "setting the input horizon (it only stores)"
 abbrev capped : Gate → Tag → Gate
-capped g t = record { input_horizon = t; stored_revision = g.stored_revision; stored_granted = g.stored_granted; granted = g.granted }
+capped g t = record g { input_horizon = t }
 
 module _ (s : Held) (h : Option Tag) (st : Standing s) (proper : proper_if_present h ≡ true) where
   is-proper : T (proper_if_present h)
@@ -116,22 +116,8 @@ module _ (s : Held) (h : Option Tag) (st : Standing s) (proper : proper_if_prese
 
   step-capped : take_step (horizon h) (view s) ≡ quiet (view (with_gate (capped s.gate (cell_of h)) s))
   unfolding take_step own_step
-  step-capped = λ k. quiet (record {
-    participants = sym (rows-gate s (capped s.gate (cell_of h)) refl) k;
-    lifecycle = (view s).lifecycle;
-    phase = (view s).phase;
-    revision = (view s).revision;
-    idle_authorization = (view s).idle_authorization;
-    pending_publication = (view s).pending_publication;
-    grant_horizon = (view s).grant_horizon;
-    completed_frontier = (view s).completed_frontier;
-    pending_inputs = (view s).pending_inputs;
-    completion_generation = (view s).completion_generation;
-    completion_probe = (view s).completion_probe;
-    first_failure = (view s).first_failure;
-    input_horizon = sym (optional-cell h is-proper) k;
-    input_acquisition = (view s).input_acquisition;
-  })
+  step-capped =
+      λ k. quiet (record (view s) { participants = sym (rows-gate s (capped s.gate (cell_of h)) refl) k; input_horizon = sym (optional-cell h is-proper) k })
 
   capped-neat : T (represents (with_gate (capped s.gate (cell_of h)) s))
   capped-neat =

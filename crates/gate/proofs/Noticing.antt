@@ -21,8 +21,8 @@ use Rattle.state.specs.declared.Coordination.{Coordination}
 use Rattle.state.specs.declared.Completion.{Completion}
 use Rattle.state.specs.declared.Gate.{Gate}
 use Rattle.state.specs.Walk.{tab}
-use Rattle.state.specs.Cells.{absent, optional_of, number_if, observation_of}
-use Rattle.state.specs.View.{tag_at, row_at, rows_of, view, represents}
+use Rattle.state.specs.Cells.{absent, observation_of}
+use Rattle.state.specs.View.{row_at, rows_of, view, represents}
 use Rattle.state.specs.Parts.{cleared}
 use Rattle.state.specs.Decides.{Good}
 use Rattle.state.proofs.Rows.{cleared-within, every-row, get_or-tab, length-tab, neat-cell}
@@ -41,28 +41,12 @@ use Rattle.gate.proofs.Ends.{input-3, input-0}
 
 -- the state with these flags, observations and small parts
 abbrev pub storing : Held → List Bool → List ℕ → Coordination → Completion → Gate → Held
-storing s published observation coordination completion gate = record {
-  count = s.count;
-  enclaves = s.enclaves;
-  published = published;
-  observation = observation;
-  acknowledged = s.acknowledged;
-  completion_observed = s.completion_observed;
-  seconds = s.seconds;
-  nanoseconds = s.nanoseconds;
-  microsteps = s.microsteps;
-  coordination = coordination;
-  completion = completion;
-  gate = gate;
-  grant_horizon = s.grant_horizon;
-  failed = s.failed;
-  first_failure = s.first_failure;
-  lifecycle = s.lifecycle;
-}
+storing s published observation coordination completion gate =
+    record s { published = published; observation = observation; coordination = coordination; completion = completion; gate = gate }
 
 -- "drops .. all granted tags"
 abbrev pub opened : Gate → Gate
-opened g = record { input_horizon = g.input_horizon; stored_revision = g.stored_revision; stored_granted = g.stored_granted; granted = absent }
+opened g = record g { granted = absent }
 
 -- "drops the stored acquisition and all granted tags"
 abbrev dropped : Gate → Gate
@@ -102,35 +86,16 @@ module _ (s : Held) (es : List ℕ) (g : Good s) (few : s.count ≤ 32) where
   noticed-rows = every-row s then (λ p. noticed es (forget p)) refl row ∙ sym (map-map (noticed es) forget (rows_of s))
     where
       row : (j : ℕ) → j < s.count → row_at (noticed_state s es) j ≡ noticed es (forget (row_at s j))
-      row j h = λ k. record {
-        index = get_or s.enclaves j 0;
-        candidate = optional_of (tag_at s j);
-        completed = optional_of (tag_at s (32 + j));
-        published = stays_within s es s.count j h k;
-        completion_observed = number_if (get_or s.acknowledged j false) (get_or s.completion_observed j 0);
-        observation = observation_of (cleared-within s.count s.observation j h k);
-        granted = None;
-        started = optional_of (tag_at s (64 + j));
-      }
+      row j h =
+          λ k. record (row_at s j) {
+            published = stays_within s es s.count j h k;
+            observation = observation_of (cleared-within s.count s.observation j h k);
+            granted = None;
+          }
 
   step-noticed : take_step (input es) (view s) ≡ quiet (view then)
   unfolding take_step own_step input_publishing_of revise_of
-  step-noticed = λ k. quiet (record {
-    participants = sym noticed-rows k;
-    lifecycle = (view s).lifecycle;
-    phase = (view then).phase;
-    revision = (view then).revision;
-    idle_authorization = (view then).idle_authorization;
-    pending_publication = (view then).pending_publication;
-    grant_horizon = (view s).grant_horizon;
-    completed_frontier = (view s).completed_frontier;
-    pending_inputs = (view s).pending_inputs;
-    completion_generation = (view s).completion_generation;
-    completion_probe = None;
-    first_failure = (view s).first_failure;
-    input_horizon = (view s).input_horizon;
-    input_acquisition = (view then).input_acquisition;
-  })
+  step-noticed = λ k. quiet (record (view then) { participants = sym noticed-rows k })
 
   noticed-neat : T (represents then)
   noticed-neat =

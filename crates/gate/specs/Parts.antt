@@ -37,21 +37,8 @@ permits s t = not (eqb s.coordination.phase 6) && t ≤ₜ s.gate.input_horizon 
 
 -- "and then started is this tag": the state with it at place i
 abbrev pub started_at : Held → ℕ → Tag → Held
-started_at s i t = record {
-  count = s.count;
-  enclaves = s.enclaves;
-  published = s.published;
-  observation = s.observation;
-  acknowledged = s.acknowledged;
-  completion_observed = s.completion_observed;
+started_at s i t = record s {
   seconds = set s.seconds (64 + i) t.seconds;
   nanoseconds = set s.nanoseconds (64 + i) t.nanoseconds;
   microsteps = set s.microsteps (64 + i) t.microstep;
-  coordination = s.coordination;
-  completion = s.completion;
-  gate = s.gate;
-  grant_horizon = s.grant_horizon;
-  failed = s.failed;
-  first_failure = s.first_failure;
-  lifecycle = s.lifecycle;
 }

@@ -122,16 +122,7 @@ module _ (r : ℕ) (t : Tag) (p : T (is_proper t)) (s : Held) (good : Good s) wh
       row-granted j h =
           let e = u.within j h in
           let f : optional_of reach ≡ Some reach = rw (proper-present reach reach-proper) refl in
-          λ k. record {
-            index = (row_at s j).index;
-            candidate = (row_at s j).candidate;
-            completed = (row_at s j).completed;
-            published = e k;
-            completion_observed = (row_at s j).completion_observed;
-            observation = (row_at s j).observation;
-            granted = f k;
-            started = (row_at s j).started;
-          }
+          λ k. record (row_at s j) { published = e k; granted = f k }
 
       rows-granted : rows_of (granted_in s opened granted qs) ≡ map (granted_up_to reach) (rows_of held)
       rows-granted = every-row held (granted_in s opened granted qs) (granted_up_to reach) refl row-granted

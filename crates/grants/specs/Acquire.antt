@@ -26,12 +26,11 @@ brings_nothing t s = not s.coordination.pending && not_above t (optional_of s.gr
 
 -- the acquisition is stored
 abbrev pub storing : ℕ → Tag → Gate → Gate
-storing r t g = record { input_horizon = g.input_horizon; stored_revision = r; stored_granted = t; granted = g.granted }
+storing r t g = record g { stored_revision = r; stored_granted = t }
 
 -- the tag is granted to all
 abbrev pub granting : Tag → Gate → Gate
-granting t g =
-    record { input_horizon = g.input_horizon; stored_revision = g.stored_revision; stored_granted = g.stored_granted; granted = t }
+granting t g = record g { granted = t }
 
 -- ---- the participant at place j is granted, and with which action
 
@@ -55,24 +54,7 @@ pub record Unpublished (s : Held) (t : Tag) (n : ℕ) (qs : List Bool) : Type 0 
 
 -- the state with this gate, these flags and what is granted
 abbrev pub granted_in : Held → Gate → Granted → List Bool → Held
-granted_in s k g qs = record {
-  count = s.count;
-  enclaves = s.enclaves;
-  published = qs;
-  observation = s.observation;
-  acknowledged = s.acknowledged;
-  completion_observed = s.completion_observed;
-  seconds = s.seconds;
-  nanoseconds = s.nanoseconds;
-  microsteps = s.microsteps;
-  coordination = g.coordination;
-  completion = s.completion;
-  gate = k;
-  grant_horizon = g.horizon;
-  failed = s.failed;
-  first_failure = s.first_failure;
-  lifecycle = s.lifecycle;
-}
+granted_in s k g qs = record s { published = qs; coordination = g.coordination; gate = k; grant_horizon = g.horizon }
 
 -- the acquisition of revision r and tag t grants g in s, with this gate
 pub record Grants (r : ℕ) (t : Tag) (s : Held) (k : Gate) (g : Granted) : Type 0 where
