@@ -15,6 +15,7 @@ use state::FederateCoordinationState;
 use tags::Tag;
 
 // A query's answer. What the query does not answer by is 0 or absent.
+// Kept: a flag beside numbers, which is C's layout.
 #[repr(C)]
 #[derive(Clone, Copy)]
 pub struct AskedNumbers {
@@ -45,6 +46,7 @@ fn asked(
     }
 }
 
+// Kept: an impl for each type of answer, since all that they say is which of the numbers it fills.
 impl From<Answer<u64>> for AskedNumbers {
     ghost from_gives = { λ a r. r ≡ number_asked (refusal_number a.refusal) a.answer };
 

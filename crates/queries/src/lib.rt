@@ -17,6 +17,7 @@ use state::{Completion, Coordination, FederateCoordinationState};
 use tags::Tag;
 
 // What a query answers: why it was refused, if it was, and what was asked for, or what is said of a refusal.
+// Kept: an answer beside a refusal, since document 01 has a refused query answer 0, no, absent or unknown too.
 #[derive(Clone, Copy)]
 pub struct Answer<T> {
     pub refusal: Option<Refusal>,

@@ -41,7 +41,8 @@ pub fn verdict_in(phase: u8, observation: Observation) -> Verdict
     VERDICTS[(phase * 3 + column) as usize]
 }
 
-// The same of a phase rather than its number, as a caller has it that holds no state.
+// The same of a phase rather than its number.
+// Kept: both are public; this one has no body of its own.
 pub fn verdict(phase: CoordinationPhase, observation: Observation) -> Verdict
     ensures { result ≡ rules.verdict_of phase observation }
 {
