@@ -1,9 +1,6 @@
 -- Of a state beside another: what is asked of the other's columns is asked of its own. By its parts. Assumes nothing.
 use mathlib.Core.Path.{◌≡◌, refl, subst}
-use Prim.Native.Nat.{ℕ}
 use Rattle.state.specs.declared.FederateCoordinationState.{FederateCoordinationState as Held}
-use Rattle.state.specs.View.{tag_at}
-use Rattle.state.specs.Parts.{row_of}
 use Rattle.state.specs.Beside.{Beside}
 
 -- t's columns with all the rest of s
@@ -19,20 +16,6 @@ beside t s = record s {
   microsteps = t.microsteps;
   grant_horizon = t.grant_horizon;
   lifecycle = t.lifecycle;
-}
-
-pub beside-self : (s : Held) → Beside s s
-beside-self s = record {
-  enclaves = refl;
-  published = refl;
-  acknowledged = refl;
-  completion_observed = refl;
-  seconds = refl;
-  nanoseconds = refl;
-  microsteps = refl;
-  count = refl;
-  grant_horizon = refl;
-  lifecycle = refl;
 }
 
 module _ {s t : Held} (b : Beside s t) where
@@ -58,9 +41,3 @@ module _ {s t : Held} (b : Beside s t) where
 
   pub beside-along : {u : Held} → t ≡ u → Beside s u
   beside-along e = subst (Beside s) e b
-
-  pub tag-beside : (k : ℕ) → tag_at s k ≡ tag_at t k
-  tag-beside k = rw (b.seconds, b.nanoseconds, b.microsteps) refl
-
-  pub row-beside : (i : ℕ) → row_of s i ≡ row_of t i
-  row-beside i = rw (b.published, b.acknowledged, b.completion_observed, b.seconds, b.nanoseconds, b.microsteps) refl

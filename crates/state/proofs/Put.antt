@@ -529,6 +529,3 @@ rows-together s = go s.count
     go : (n : ℕ) → Each (λ p. p.granted ≡ granted_of (tab (row_at s) 0 n)) (tab (row_at s) 0 n)
     go zero = tt
     go (suc n) = together-from s 0 (suc n)
-
-pub fit-view : (s : Held) → T (is_sound (view s)) → Fit (view s)
-fit-view s h = fit-sound (view s) h (rows-together s)

@@ -49,23 +49,10 @@ module _ {A : Type 0} (walk : ℕ → ℕ → A) (n : ℕ) where
   downward P (suc j) h s p =
       downward P j (omega arith) (λ k l. s k (omega arith)) (subst P (sym (more j (omega arith))) (s j (omega arith) (rw add-one p)))
 
--- ---- up: all (for crate observation), the first place
+-- ---- up: the first place
 
 pub place-start : (f : ℕ → Bool) (n : ℕ) → place_from f 0 n ≡ place_from f 0 (n - 0)
 place-start f = start (place_from f)
-
-module _ (f : ℕ → Bool) (n i : ℕ) (z : Bool) where
-  pub all-turn : (r : Bool) → z ≡ all_of f i (n - i) → i < n → r ≡ f i → not r ≡ false → z ≡ all_of f (i + 1) (n - (i + 1))
-  unfolding all_of
-  all-turn r p h e t = p ∙ more (all_of f) n i h ∙ rw (← e, not-false r t) refl
-
-  pub all_left : (r : Bool) → z ≡ all_of f i (n - i) → i < n → r ≡ f i → not r ≡ true → false ≡ z
-  unfolding all_of
-  all_left r p h e t = sym (p ∙ more (all_of f) n i h ∙ rw (← e, not-true r t) refl)
-
-  pub all_done : z ≡ all_of f i (n - i) → n ≤ i → true ≡ z
-  unfolding all_of
-  all_done p h = sym (p ∙ done (all_of f) n i h)
 
 module _ (f : ℕ → Bool) (n i z : ℕ) where
   pub place-turn : z ≡ place_from f i (n - i) → i < n → f i ≡ false → z ≡ place_from f (i + 1) (n - (i + 1))
