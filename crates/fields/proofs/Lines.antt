@@ -1,5 +1,5 @@
 -- A line that is put word by word: the first word, then each further one with the space before it. Assumes nothing.
-use mathlib.Core.Path.{◌≡◌, refl, sym, ap, ◌∙◌}
+use mathlib.Core.Path.{◌≡◌, refl, sym}
 use mathlib.Core.List.{List, [], ◌∷◌, ◌++◌, append_assoc, append-nil}
 use Prim.Native.Nat.{ℕ, zero, suc, ◌+◌, ◌≤◌, ◌<◌}
 use native.Mathlib.Omega.{arith}
@@ -7,9 +7,9 @@ use native.Mathlib.Numerals.{add-one}
 use lib.ListN.{length, take, get_or}
 use Rattle.numerals.specs.Numerals.{text}
 use Rattle.printing.specs.Runs.{Puts}
-use Rattle.printing.proofs.Runs.{then-more, at_most}
+use Rattle.printing.proofs.Runs.{then-more}
 use Rattle.fields.specs.Words.{line}
-use Rattle.fields.specs.Fields.{word_of, words, room_of, room_for, field_text, fields_text, rest}
+use Rattle.fields.specs.Fields.{words, room_of, room_for, field_text, fields_text, rest}
 use Rattle.fields.specs.declared.Field.{Field}
 
 line-rest : (w : List ℕ) (ws : List (List ℕ)) → line (w ∷ ws) ≡ w ++ rest ws

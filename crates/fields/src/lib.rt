@@ -54,7 +54,8 @@ fn put_field(out: &mut [u8], at: usize, field: Field) -> usize
     put_word(out, word, field)
 }
 
-fn put_fields(out: &mut [u8], at: usize, fields: &[Field]) -> usize
+// Puts the fields, each with the space before it.
+pub fn put_fields(out: &mut [u8], at: usize, fields: &[Field]) -> usize
     requires { at + room_for fields.now ≤ length out.old }
     ensures { Puts out.old at (fields_text fields.now) (room_for fields.now) result out.new }
 {
