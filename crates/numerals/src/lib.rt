@@ -48,6 +48,7 @@ fn negative(t: &[u8], half: u64) -> Option<i64>
 {
     match number(t, half)? {
         0 => None,
+        // -k, whose size may be one more than an i64 holds.
         k => Some(!((k - 1) as i64)),
     }
 }
