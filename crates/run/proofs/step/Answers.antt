@@ -1,9 +1,8 @@
 -- `run::step` takes and lists the event at a place, by the line there, or nothing where there is none. Assumes nothing.
 use mathlib.Core.Path.{refl, sym, ap, ◌∙◌, subst}
 use mathlib.Core.Bool.{not}
-use Rattle.std.specs.Prelude.{Some}
 use Rattle.events.specs.Events.{event_of}
-use Rattle.events.specs.Told.{told_event, call_told, enclaves_of}
+use Rattle.events.specs.Told.{call_told, enclaves_of}
 use Rattle.run.specs.Promises.{ListsBy}
 use Rattle.run.proofs.Steps.{unended, no-event, an-event}
 use Rattle.run.proofs.step.Goals as goal

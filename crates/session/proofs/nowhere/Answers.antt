@@ -1,7 +1,6 @@
 -- `session::nowhere` begins with the blank state, which an opening of nobody leaves. Assumes nothing.
 use mathlib.Core.Path.{ap, ◌∙◌}
 use Rattle.rules.specs.Model.{KeepAlive}
-use Rattle.run.specs.declared.Running.{Running}
 use Rattle.session.proofs.Opens.{nobody-blank}
 use Rattle.session.proofs.nowhere.Goals as goal
 
