@@ -23,7 +23,7 @@ use Rattle.state.specs.declared.Parts.{Parts}
 use Rattle.state.specs.Beside.{Beside}
 use Rattle.state.specs.View.{view, represents}
 use Rattle.state.specs.Parts.{Sized, row_of, with_row, parts_of, rebuilt, cleared, with_coordination, with_completion, with_gate}
-use Rattle.state.specs.Decides.{Good, Decides, halfway, neat_parts}
+use Rattle.state.specs.Decides.{Aside, Good, Decides, halfway, neat_parts}
 use Rattle.state.proofs.Beside.{beside-along}
 use Rattle.state.proofs.Neat.{place-parts, neat-place, neat-coordination, neat-completion, neat-failure}
 use Rattle.publication.specs.Announce.{dropped_of}
@@ -45,14 +45,8 @@ use Rattle.emission.proofs.Adding.{none_written}
 use Rattle.federate.proofs.Message.{is-silent, message-proper, Sits}
 use Rattle.federate.proofs.Scheduler.{own_end, whole_end, halfway-neat, own-good, spent-is, end-beyond, end-neat, step_is}
 use Rattle.federate.proofs.Refusing.{out-spent, open-call}
+use Rattle.federate.proofs.Entering.{Enters}
 use Rattle.federate.proofs.Undo.{set_back, set-back-two}
-
--- the enclave stands at place i, and 27, 8, 7 and 3 are passed
-pub record Enters (room : List ℕ) (m : SchedulerMessage) (s : Held) (i : ℕ) : Type 0 where
-  pub stands : Standing s
-  pub wide : 56 * (s.count + 2) ≤ length room
-  pub proper : proper_if_present (tag_of m) ≡ true
-  pub place : Sits (enclave_of m) s i
 
 -- ---- the cells put back
 
@@ -151,9 +145,12 @@ module _ (s : Held) (i : ℕ) (d : Decided) (k : Concluded) (a : Advanced) where
     end-stored = rw row refl
 
     -- a message about completion leaves the rest alone
-    pub end-aside : k.coordination ≡ s.coordination → d.parts.failed ≡ s.failed → d.parts.first_failure ≡ s.first_failure
-        → with_completion a.completion r ≡ stored_end
-    end-aside c f n = rw (row, c, f, n) refl
+    pub end-aside : (p : Parts) → p ≡ parts_of s i → Aside p d → k.coordination ≡ d.parts.coordination → with_completion a.completion r ≡ stored_end
+    end-aside p read x y =
+        let c : k.coordination ≡ s.coordination = y ∙ x.coordination ∙ ap (λ (z : Parts). z.coordination) read in
+        let f : d.parts.failed ≡ s.failed = x.failed ∙ ap (λ (z : Parts). z.failed) read in
+        let n : d.parts.first_failure ≡ s.first_failure = x.failure ∙ ap (λ (z : Parts). z.first_failure) read in
+        rw (row, c, f, n) refl
 
   -- before the gate
   abbrev pub observed_end : Held
@@ -203,19 +200,13 @@ module _ (room : List ℕ) (m : SchedulerMessage) (s : Held) (i : ℕ) (n : Ente
 
   -- ---- the first half, as `own_step` promises it of the parts that were read
 
-  module _ (w : Row) (row : w ≡ row_of s i) (d : Decided) where
-    abbrev pub read : Parts
-    read = record { row = w; coordination = s.coordination; completion = s.completion; failed = s.failed; first_failure = s.first_failure }
-
-    read_is : read ≡ parts_of s i
-    read_is = rw row refl
-
-    pub decides : ((e : ℕ) → Names (enclave_of m) e → T (all_proper (facts (call_of m)).tags) → Decides (own_step (call_of m)) e read d)
+  module _ (p : Parts) (read : p ≡ parts_of s i) (d : Decided) where
+    pub decides : ((e : ℕ) → Names (enclave_of m) e → T (all_proper (facts (call_of m)).tags) → Decides (own_step (call_of m)) e p d)
         → Decides (own_step (call_of m)) (get_or s.enclaves i 0) (parts_of s i) d
-    decides steps = subst (λ (p : Parts). Decides (own_step (call_of m)) (get_or s.enclaves i 0) p d) read_is (steps (get_or s.enclaves i 0) n.place.named proper)
+    decides steps = rw (← read) (steps (get_or s.enclaves i 0) n.place.named proper)
 
-    pub neat : (T (all_proper (facts (call_of m)).tags) → T (neat_parts read) → T (neat_parts d.parts)) → T (neat_parts d.parts)
-    neat keeps = keeps proper (subst (λ (p : Parts). T (neat_parts p)) (sym read_is) neat-own)
+    pub neat : (T (all_proper (facts (call_of m)).tags) → T (neat_parts p) → T (neat_parts d.parts)) → T (neat_parts d.parts)
+    neat keeps = keeps proper (rw read neat-own)
 
   -- ---- the state between, and the state after the own rule
 

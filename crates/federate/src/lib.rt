@@ -2,13 +2,13 @@
 // completion step, and the records of what they say from byte 0 of the lent room.
 #![tactic(auto)]
 
-ghost use Rattle.std.specs.Prelude.{◌≡◌, ◌≤◌, length};
+ghost use Rattle.std.specs.Prelude.{◌≡◌, ◌≤◌, ◌<◌, length};
 ghost use Rattle.octets.specs.Runs.{put_at};
 ghost use Rattle.actions.specs.Record.{records_of};
-ghost use Rattle.state.specs.Parts.{Apart};
+ghost use Rattle.state.specs.Parts.{Apart, parts_of};
 ghost use Rattle.dispatch.specs.Messages.{call_of};
 ghost use Rattle.calls.specs.Called.{lent, actions_of, Promised};
-ghost use Rattle.federate.specs.Places.{place_of};
+ghost use Rattle.federate.specs.Places.{place_of, place_for};
 
 use calls::Called;
 use dispatch::Said;
@@ -26,6 +26,42 @@ fn place_of(state: &FederateCoordinationState, enclave: Option<u32>) -> usize
     }
 }
 
+// 27, 8, 7 and 3 in this order, or the place of the message's enclave.
+fn place_for(
+    state: &FederateCoordinationState,
+    message: SchedulerMessage,
+    room: usize,
+) -> Result<usize, Refusal>
+    ensures { result ≡ place_for room message state.now }
+{
+    if !soundness::is_sound(state) {
+        return Err(Refusal::UnsoundState);
+    }
+    let proper = tags::proper_if_present(dispatch::tag_of(message));
+    let place = place_of(state, dispatch::enclave_of(message));
+    match calls::room_first(
+        room,
+        state.count,
+        calls::tag_first(proper, place < state.count),
+    ) {
+        None => Ok(place),
+        Some(refusal) => Err(refusal),
+    }
+}
+
+fn parts_at(state: &FederateCoordinationState, place: usize) -> Parts
+    requires { place < 32 }
+    ensures { result ≡ parts_of state.now place }
+{
+    Parts {
+        row: table::row_at(state, place),
+        coordination: state.coordination,
+        completion: state.completion,
+        failed: state.failed,
+        first_failure: state.first_failure,
+    }
+}
+
 // One scheduler message: 27, 8, 7, 3 and 9, else the rules' step with its records in the room. One straight line over the state that came in, since each
 // hop of it by value costs a copy; the entry's cells are put back where the generation is spent.
 pub fn handle_scheduler(
@@ -36,24 +72,12 @@ pub fn handle_scheduler(
     ensures promised { Promised (lent (length room.old) (call_of message)) state result }
     ensures bytes { room.new ≡ put_at room.old 0 (records_of (actions_of (lent (length room.old) (call_of message)) state)) }
 {
-    if !soundness::is_sound(&state) {
-        return calls::with_reply(state, Some(Refusal::UnsoundState), None, 0);
-    }
-    let count = state.count;
-    let proper = tags::proper_if_present(dispatch::tag_of(message));
-    let place = place_of(&state, dispatch::enclave_of(message));
-    if !calls::is_open(room.len(), count, proper, place < count) {
-        let refusal = calls::room_first(room.len(), count, calls::tag_first(proper, place < count));
-        return calls::with_reply(state, refusal, None, 0);
-    }
-    let row = table::row_at(&state, place);
-    let parts = Parts {
-        row,
-        coordination: state.coordination,
-        completion: state.completion,
-        failed: state.failed,
-        first_failure: state.first_failure,
+    let place = match place_for(&state, message, room.len()) {
+        Ok(place) => place,
+        Err(refusal) => return calls::with_reply(state, Some(refusal), None, 0),
     };
+    let count = state.count;
+    let parts = parts_at(&state, place);
     let decided = dispatch::own_step(message, parts);
     table::put_row(&mut state, place, decided.parts.row);
     let concluded = dispatch::conclude(
@@ -69,7 +93,7 @@ pub fn handle_scheduler(
     ) {
         Ok(advanced) => advanced,
         Err(refusal) => {
-            table::put_row(&mut state, place, row);
+            table::put_row(&mut state, place, parts.row);
             return calls::with_reply(state, Some(refusal), None, 0);
         }
     };
