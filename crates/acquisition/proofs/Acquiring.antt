@@ -74,7 +74,7 @@ module _ (n r : ℕ) (t : Tag) (s : Held) (st : Standing s) (zero_is : 0 ≡ ref
     -- what is granted is asked of the state with the gate stored
     pub moves-promised : (g : Granted) → a.granted ≡ Some g → (room room₁ room₂ : List ℕ) (k₁ k₂ : ℕ) (qs : List Bool) (c : Called) → 56 * (s.count + 2) ≤ length room
         → Adds (AdvanceHorizon g.horizon ∷ []) room 0 room₁ k₁ → Adds (grants_of s g.tag s.count) room₁ k₁ room₂ k₂
-        → Unpublished (with_gate a.gate s) g.tag s.count qs → c ≡ replied (granted_in s a.gate g qs) None None k₂
+        → Unpublished (with_gate a.gate s) g.tag qs → c ≡ replied (granted_in s a.gate g qs) None None k₂
         → Ends (lent n (acquire r t)) s c room room₂
     unfolding take_step own_step
     moves-promised g h room room₁ room₂ k₁ k₂ qs c fits advances grants u e =

@@ -1,4 +1,4 @@
-pub mod Turns
+pub mod Among
 pub mod Seats
 pub mod Ends
 pub mod Beginning

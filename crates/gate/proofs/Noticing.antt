@@ -4,12 +4,10 @@ use Rattle.std.specs.Prelude.{None, Some}
 use mathlib.Core.Path.{◌≡◌, refl, sym, ◌∙◌, subst}
 use mathlib.Core.Bool.{Bool, true, false}
 use mathlib.Core.List.{List, map, map-map, []}
-use Prim.Native.Nat.{ℕ, ◌+◌, ◌-◌, ◌≤◌, ◌<◌}
+use Prim.Native.Nat.{ℕ, ◌≤◌, ◌<◌}
 use native.Mathlib.Omega.{arith}
 use lib.Dec.{T}
 use lib.IntN.{pos}
-use lib.ListN.{length, get_or, drop, length-append, length-drop, get_or-append}
-use lib.Seq.{get_or-append-add, get_or-drop}
 use Rattle.records.specs.declared.Refusal.TheVariants.{UnknownEnclave}
 use Rattle.rules.specs.Model.{input}
 use Rattle.rules.specs.Walk.{quiet}
@@ -20,21 +18,20 @@ use Rattle.state.specs.declared.FederateCoordinationState.{FederateCoordinationS
 use Rattle.state.specs.declared.Coordination.{Coordination}
 use Rattle.state.specs.declared.Completion.{Completion}
 use Rattle.state.specs.declared.Gate.{Gate}
-use Rattle.state.specs.Walk.{tab}
 use Rattle.state.specs.Cells.{absent, observation_of}
 use Rattle.state.specs.View.{row_at, rows_of, view, represents}
 use Rattle.state.specs.Parts.{cleared}
 use Rattle.state.specs.Decides.{Good}
-use Rattle.state.proofs.Rows.{cleared-within, every-row, get_or-tab, length-tab, neat-cell}
+use Rattle.state.proofs.Rows.{cleared-within, every-row, neat-cell}
 use Rattle.state.proofs.Neat.{neat-parts, represents-of, place-parts, place-whole, gate-parts, gate-whole}
-use Rattle.state.proofs.Put.{Beyond, Past, plain, past_same, past-cleared}
+use Rattle.state.proofs.Put.{Beyond, plain, past_same, past-cleared}
 use Rattle.state.proofs.Columns.{place}
 use Rattle.calls.specs.declared.Called.{Called}
 use Rattle.calls.specs.Called.{Promised, lent, replied}
 use Rattle.publication.specs.Announce.{dropped_of}
 use Rattle.publication.specs.Revise.{revised_of, unprobed_of}
 use Rattle.publication.proofs.Neat.{neat-revised, neat-unprobed}
-use Rattle.gate.specs.Parts.{all_found, stays_at, unlisted}
+use Rattle.gate.specs.Parts.{all_found, Unlisted}
 use Rattle.gate.proofs.Seats.{knows-found}
 use Rattle.calls.proofs.Standing.{Standing, promised-refused, promised-taken}
 use Rattle.gate.proofs.Ends.{input-3, input-0}
@@ -52,43 +49,21 @@ opened g = record g { granted = absent }
 abbrev dropped : Gate → Gate
 dropped g = opened (dropped_of g)
 
-abbrev noticed_state : Held → List ℕ → Held
-noticed_state s es =
-    storing s (unlisted s es s.count) (cleared s.count s.observation) (revised_of s.coordination) (unprobed_of s.completion) (dropped s.gate)
+abbrev noticed_state : Held → List Bool → Held
+noticed_state s qs =
+    storing s qs (cleared s.count s.observation) (revised_of s.coordination) (unprobed_of s.completion) (dropped s.gate)
 
--- ---- the flags that stay
-
-module _ (s : Held) (es : List ℕ) (n : ℕ) where
-  abbrev f : ℕ → Bool
-  f = stays_at s es
-
-  stays_within : (j : ℕ) → j < n → get_or (unlisted s es n) j false ≡ stays_at s es j
-  stays_within j h =
-      get_or-append (tab f 0 n) (drop n s.published) false j (let l = length-tab f 0 n in omega arith) ∙ get_or-tab f false n j h
-
-  stays-past : n ≤ length s.published → Past plain false n s.published (unlisted s es n)
-  stays-past h = record {
-    long = length-append (tab f 0 n) (drop n s.published) ∙ (let a = length-tab f 0 n in let b = length-drop n s.published in omega arith);
-    cells = λ u j p q. subst (λ k. get_or (unlisted s es n) k false ≡ get_or s.published k false) (let w : n + (j - n) ≡ j = omega arith in w) (tail (j - n));
-  }
-    where
-      tail : (k : ℕ) → get_or (unlisted s es n) (n + k) false ≡ get_or s.published (n + k) false
-      tail k =
-          subst (λ m. get_or (unlisted s es n) (m + k) false ≡ get_or (drop n s.published) k false) (length-tab f 0 n)
-          (get_or-append-add (tab f 0 n) (drop n s.published) k false) ∙
-          get_or-drop n s.published k false
-
-module _ (s : Held) (es : List ℕ) (g : Good s) (few : s.count ≤ 32) where
+module _ (s : Held) (es : List ℕ) (g : Good s) (few : s.count ≤ 32) (qs : List Bool) (u : Unlisted s es qs) where
   abbrev then : Held
-  then = noticed_state s es
+  then = noticed_state s qs
 
   noticed-rows : rows_of then ≡ map (noticed es) (map forget (rows_of s))
   noticed-rows = every-row s then (λ p. noticed es (forget p)) refl row ∙ sym (map-map (noticed es) forget (rows_of s))
     where
-      row : (j : ℕ) → j < s.count → row_at (noticed_state s es) j ≡ noticed es (forget (row_at s j))
+      row : (j : ℕ) → j < s.count → row_at (noticed_state s qs) j ≡ noticed es (forget (row_at s j))
       row j h =
           λ k. record (row_at s j) {
-            published = stays_within s es s.count j h k;
+            published = u.within j h k;
             observation = observation_of (cleared-within s.count s.observation j h k);
             granted = None;
           }
@@ -121,7 +96,7 @@ module _ (s : Held) (es : List ℕ) (g : Good s) (few : s.count ≤ 32) where
   noticed-beyond = let n = s.count in let z = g.sized in record {
     count = refl;
     enclaves = past_same plain 0 n s.enclaves s.enclaves refl;
-    published = stays-past s es n (let l = z.published in omega arith);
+    published = record { long = u.long; cells = λ k j p q. u.beyond j p };
     observation = past-cleared n s.observation (let l = z.observation in omega arith);
     acknowledged = past_same plain false n s.acknowledged s.acknowledged refl;
     observed = past_same plain 0 n s.completion_observed s.completion_observed refl;
@@ -140,10 +115,10 @@ module _ (s : Held) (es : List ℕ) (st : Standing s) {known : Bool} (q : known 
   ends-unknown r h e = promised-refused (lent 0 (input es)) s (Some UnknownEnclave) None (input-3 es s st.passing (knowing ∙ h)) (omega arith) refl e
 
   pub ends-noticed : (published : List Bool) (observation : List ℕ) (c : Coordination) (k : Completion) (g : Gate) (r : Called) → known ≡ true
-      → published ≡ unlisted s es s.count → observation ≡ cleared s.count s.observation → c ≡ revised_of s.coordination
+      → Unlisted s es published → observation ≡ cleared s.count s.observation → c ≡ revised_of s.coordination
       → k ≡ unprobed_of s.completion → g ≡ dropped s.gate → r ≡ replied (storing s published observation c k g) None None 0 → Promised (lent 0 (input es)) s r
-  ends-noticed published observation c k g r h p o x y z e =
+  ends-noticed published observation c k g r h u o x y z e =
       let few = st.few in
-      promised-taken (lent 0 (input es)) s st (input-0 es s st.passing (knowing ∙ h)) None refl (noticed_state s es) []
-      (noticed-beyond s es st.good few) (noticed-neat s es st.good few) (step-noticed s es st.good few) refl
-      (e ∙ (λ i. replied (storing s (p i) (o i) (x i) (y i) (z i)) None None 0))
+      promised-taken (lent 0 (input es)) s st (input-0 es s st.passing (knowing ∙ h)) None refl (noticed_state s published) []
+      (noticed-beyond s es st.good few published u) (noticed-neat s es st.good few published u) (step-noticed s es st.good few published u) refl
+      (e ∙ (λ i. replied (storing s published (o i) (x i) (y i) (z i)) None None 0))

@@ -12,7 +12,7 @@ ghost use Rattle.state.specs.Cells.{optional_of};
 ghost use Rattle.state.specs.View.{rows_of, view};
 ghost use Rattle.calls.specs.Called.{Promised, lent};
 ghost use Rattle.gate.specs.Replies.{Replies, answering};
-ghost use Rattle.gate.specs.Parts.{sound_then_proper, all_found, unlisted, permits, started_at};
+ghost use Rattle.gate.specs.Parts.{sound_then_proper, all_found, Unlisted, permits, started_at};
 
 use calls::{Called, Reply};
 use records::{CoordinationPhase, EnclaveIndex, Refusal};
@@ -150,15 +150,9 @@ fn are_known(state: &FederateCoordinationState, affected: &[u32]) -> bool
 // Which participants stay published; every other flag is as it was.
 fn still_published(state: &FederateCoordinationState, affected: &[u32]) -> [bool; 32]
     requires { state.now.count ≤ 32 }
-    ensures { result ≡ unlisted state.now affected.now state.now.count }
+    ensures { Unlisted state.now affected.now result }
 {
-    let mut left = state.published;
-    for i in 0..state.count {
-        if affected.contains(&state.enclaves[i]) {
-            left[i] = false;
-        }
-    }
-    left
+    table::published_without(state, |place| affected.contains(&state.enclaves[place]))
 }
 
 // Announces input to these enclaves: revises even when stopped, drops the stored acquisition and all granted tags, unpublishes the named.
@@ -171,9 +165,9 @@ pub fn input_publishing(mut state: FederateCoordinationState, affected: &[u32]) 
     if !are_known(&state, affected) {
         return calls::with_reply(state, Some(Refusal::UnknownEnclave), None, 0);
     }
+    state.published = still_published(&state, affected);
     let count = state.count;
     table::clear(&mut state.observation, count);
-    state.published = still_published(&state, affected);
     state.coordination = publication::revised(state.coordination);
     state.completion = publication::unprobed(state.completion);
     state.gate = Gate {

@@ -117,7 +117,7 @@ module _ (r : ℕ) (t : Tag) (p : T (is_proper t)) (s : Held) (good : Good s) wh
     abbrev granted : Granted
     granted = record { tag = reach; horizon = raised_horizon (optional_of s.grant_horizon) reach; coordination = without_pending s.coordination.phase s.coordination }
 
-    module _ (qs : List Bool) (u : Unpublished s reach s.count qs) where
+    module _ (qs : List Bool) (u : Unpublished s reach qs) where
       row-granted : (j : ℕ) → j < s.count → row_at (granted_in s opened granted qs) j ≡ granted_up_to reach (row_at held j)
       row-granted j h =
           let e = u.within j h in

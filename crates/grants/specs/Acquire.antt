@@ -1,5 +1,5 @@
 -- Document 01, "Acquisition", as the code takes it: what the functions that decide, unpublish and write promise of a state. Assumes nothing.
-use Rattle.std.specs.Prelude.{◌≡◌, Bool, false, not, ◌&&◌, ◌||◌, List, ◌∷◌, ℕ, ◌≤◌, ◌<◌, T, eqb, length, get_or, None, Some}
+use Rattle.std.specs.Prelude.{◌≡◌, Bool, false, not, ◌&&◌, ◌||◌, List, ◌∷◌, ℕ, T, eqb, get_or, None, Some}
 use Rattle.tags.specs.Tags.{is_at_or_below}
 use Rattle.rules.specs.Model.{Tag, CoordinationAction, AdvanceHorizon, Grant}
 use Rattle.rules.specs.Walk.{quiet, emit}
@@ -11,6 +11,7 @@ use Rattle.state.specs.Cells.{optional_of, is_neat}
 use Rattle.state.specs.Walk.{each_from}
 use Rattle.state.specs.View.{tag_at, view, neat_coordination, neat_gate}
 use Rattle.state.specs.Parts.{with_gate}
+use Rattle.table.specs.Flags.{Without}
 use Rattle.grants.specs.declared.Granted.{Granted}
 use Rattle.grants.specs.declared.Acquired.{Acquired}
 
@@ -44,11 +45,9 @@ grant_at s t j = Grant (get_or s.enclaves j 0) (tag_or t (optional_of (tag_at s 
 abbrev pub grants_of : Held → Tag → ℕ → List CoordinationAction
 grants_of s t n = each_from (grantable_at s t) (grant_at s t) 0 n
 
--- qs are the flags of s without those of the first n places that are granted
-pub record Unpublished (s : Held) (t : Tag) (n : ℕ) (qs : List Bool) : Type 0 where
-  pub long : length qs ≡ length s.published
-  pub within : (j : ℕ) → j < n → get_or qs j false ≡ (get_or s.published j false && not (grantable_at s t j))
-  pub beyond : (j : ℕ) → n ≤ j → get_or qs j false ≡ get_or s.published j false
+-- qs are the flags of s without those that are granted
+abbrev pub Unpublished : Held → Tag → List Bool → Type 0
+Unpublished s t qs = Without (grantable_at s t) s s.count qs
 
 -- ---- the whole
 
@@ -60,7 +59,7 @@ granted_in s k g qs = record s { published = qs; coordination = g.coordination; 
 pub record Grants (r : ℕ) (t : Tag) (s : Held) (k : Gate) (g : Granted) : Type 0 where
   pub neat : T (neat_coordination g.coordination)
   pub cell : T (is_neat g.horizon)
-  pub moves : (qs : List Bool) → Unpublished s g.tag s.count qs
+  pub moves : (qs : List Bool) → Unpublished s g.tag qs
       → acquisition_of r t (view s) ≡ emit (AdvanceHorizon g.horizon ∷ grants_of s g.tag s.count) (view (granted_in s k g qs))
 
 -- a is the acquisition of revision r and tag t in s

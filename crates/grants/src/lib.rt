@@ -54,8 +54,7 @@ fn stored(gate: Gate, revision: u64, tag: Tag) -> Gate
 fn is_outdated(coordination: &Coordination, revision: u64) -> bool
     ensures { result ≡ is_stale revision coordination.now }
 {
-    coordination.phase == u8::from(CoordinationPhase::Stopped)
-        || revision != coordination.revision
+    coordination.phase == u8::from(CoordinationPhase::Stopped) || revision != coordination.revision
 }
 
 // "If no publication is pending, and there is no horizon or the tag is not above it: nothing more."
@@ -118,15 +117,9 @@ fn is_grantable(state: &FederateCoordinationState, place: usize, tag: Tag) -> bo
 // The flags without those granted up to the tag; a place past the count keeps its own.
 pub fn unpublished(state: &FederateCoordinationState, tag: Tag) -> [bool; 32]
     requires { state.now.count ≤ 32 }
-    ensures { Unpublished state.now tag state.now.count result }
+    ensures { Unpublished state.now tag result }
 {
-    let mut flags = state.published;
-    for i in 0..state.count {
-        if is_grantable(state, i, tag) {
-            flags[i] = false;
-        }
-    }
-    flags
+    table::published_without(state, |place| is_grantable(state, place, tag))
 }
 
 // Adds a Grant for each enclave whose published candidate is at or below the tag, by ascending index.

@@ -2,7 +2,7 @@
 // The state is lent, so that nothing is copied. Every function refuses nothing; a place or a count beyond the columns is the caller's to exclude.
 #![tactic(auto)]
 
-ghost use Rattle.std.specs.Prelude.{◌≡◌, false, cond, not, ◌||◌, ◌+◌, ◌≤◌, ◌<◌, eqb, get_or, None};
+ghost use Rattle.std.specs.Prelude.{◌≡◌, ℕ, false, cond, not, ◌||◌, ◌+◌, ◌≤◌, ◌<◌, eqb, get_or, None};
 ghost use Rattle.tags.specs.Tags.{is_present, lesser_of, greater_of, lesser_of_both, is_below, is_at_or_below};
 ghost use Rattle.rules.specs.Walk.{is_number};
 ghost use Rattle.state.specs.Cells.{is_absent, optional_of, cell_of, number_if};
@@ -11,6 +11,7 @@ ghost use Rattle.state.specs.View.{tag_at};
 ghost use Rattle.state.specs.Parts.{Apart, cleared, place_in, row_of, with_row};
 ghost use Rattle.table.specs.declared.Scanned.TheVariants.{Blocked, Waiting, Answered};
 ghost use Rattle.table.specs.Scan.{blocks_at, answered_at};
+ghost use Rattle.table.specs.Flags.{Cleared};
 
 use state::{ABSENT, COMPLETED, FederateCoordinationState, Row};
 use tags::Tag;
@@ -66,6 +67,24 @@ pub fn clear(cells: &mut [u8; 32], count: usize)
     for (i, cell) in cells.iter_mut().enumerate() {
         *cell = if i < count { 0 } else { *cell };
     }
+}
+
+// The published flags without those of the participants whose places `leaves` tells; a flag past the count is as it was.
+pub fn published_without<F: Fn(usize) -> bool>(
+    state: &FederateCoordinationState,
+    leaves: F,
+) -> [bool; 32]
+    requires few { state.now.count ≤ 32 }
+    requires callable { (k : ℕ) → k < 32 → F.pre leaves k }
+    ensures { Cleared (F.post leaves) state.now state.now.count result }
+{
+    let mut flags = state.published;
+    for place in 0..state.count {
+        if leaves(place) {
+            flags[place] = false;
+        }
+    }
+    flags
 }
 
 // The lesser of two cells where an absent one does not count.
