@@ -6,8 +6,8 @@ use mathlib.Core.Bool.{Bool, true, false, cond, ◌&&◌}
 use mathlib.Core.List.{List, [], ◌∷◌}
 use Prim.Native.Nat.{ℕ, zero, suc, ◌+◌, ◌*◌, ◌≤◌, ◌<◌}
 use native.Mathlib.Omega.{arith}
-use borrow.Author.Tests.{lt-ltb, le-ltb, ltb-false, leb-true, leb-false, eqb-true}
-use lib.Dec.{T, eqb, leb, ltb}
+use borrow.Author.Tests.{lt-ltb, le-ltb, ltb-false, eqb-true}
+use lib.Dec.{T, eqb, ltb}
 use lib.ListN.{length}
 use Rattle.records.specs.Numbers.{refusal_number}
 use Rattle.records.specs.declared.Refusal.{Refusal}
@@ -22,7 +22,7 @@ use Rattle.rules.proofs.Room.{call-fits-room}
 use Rattle.state.specs.declared.FederateCoordinationState.{FederateCoordinationState as Held}
 use Rattle.state.specs.View.{view, put, represents}
 use Rattle.state.proofs.Put.{Beyond, beyond-refl}
-use Rattle.calls.specs.Called.{lent, refusal_of, state_of, actions_of, answer_of, Promised, replied, is_open, room_first, tag_first}
+use Rattle.calls.specs.Called.{lent, refusal_of, state_of, actions_of, answer_of, Promised, replied, room_first, tag_first}
 use Rattle.calls.specs.declared.Called.{Called}
 use Rattle.calls.proofs.Refusals.{Passes, passes, room_of, refusal-27, refusal-8, refusal-7, refusal-3, actions-taken}
 use Rattle.calls.proofs.Standing.{Standing, promised-refused, promised-27, promised-taken}
@@ -125,20 +125,6 @@ module _ (g : Given) (s : Held) {b c : Bool} {n : Option Refusal} (f : First g s
           by zero h = absurd (h refl)
           by (suc m) h = omega arith
 
-  -- one of the three
-  pub first-shut : is_open g.room s.count b c ≡ false → refusal_number n ≡ 0 → ⊥
-  first-shut shut = subst (λ (x : Option Refusal). refusal_number x ≡ 0 → ⊥) (sym f.is) (go short (leb (56 * (s.count + 2)) g.room) b c refl refl shut)
-    where
-      go : (a d b c : Bool) → short ≡ a → leb (56 * (s.count + 2)) g.room ≡ d → (d && b && c) ≡ false → refusal_number (cond a (Some RoomTooSmall) (tag_first b c)) ≡ 0 → ⊥
-      go true d b c h k q l = omega arith
-      go false d false c h k q l = omega arith
-      go false d true false h k q l = omega arith
-      go false true true true h k q l = no_way (sym q)
-      go false false true true h k q l =
-          let x = ltb-false g.room (56 * (s.count + 2)) h in
-          let y = leb-false (56 * (s.count + 2)) g.room k in
-          omega arith
-
   -- none of the three
   pub first-none : refusal_number n ≡ 0 → (56 * (s.count + 2) ≤ g.room) × (b ≡ true) × (c ≡ true)
   first-none h =
@@ -150,16 +136,6 @@ module _ (g : Given) (s : Held) {b c : Bool} {n : Option Refusal} (f : First g s
       go false false c l = absurd (omega arith)
       go false true false l = absurd (omega arith)
       go false true true l = (refl, refl, refl)
-
--- none of the three, asked before any refusal is made
-pub open-three : (room count : ℕ) (b c : Bool) → is_open room count b c ≡ true → (56 * (count + 2) ≤ room) × (b ≡ true) × (c ≡ true)
-open-three room count b c h = go (leb (56 * (count + 2)) room) b c refl h
-  where
-    go : (a b c : Bool) → leb (56 * (count + 2)) room ≡ a → (a && b && c) ≡ true → (56 * (count + 2) ≤ room) × (b ≡ true) × (c ≡ true)
-    go false b c q l = absurd (no_way l)
-    go true false c q l = absurd (no_way l)
-    go true true false q l = absurd (no_way l)
-    go true true true q l = (leb-true (56 * (count + 2)) room q, refl, refl)
 
 -- the actions of a taken call fit into the room that it demands
 pub actions-fit : (g : Given) (s : Held) → Passes s → 0 ≡ refusal_of g s → 56 * length (take_step g.what (view s)).actions ≤ 56 * (s.count + 2)

@@ -1,6 +1,6 @@
 -- What a public call on the state held promises, in the words of the rules: refusal, answer, number of actions, the state with every cell, and the
 -- actions whose records the room holds afterwards. Assumes nothing.
-use Rattle.std.specs.Prelude.{◌≡◌, Bool, cond, ◌&&◌, List, [], ℕ, ◌+◌, ◌*◌, eqb, leb, ltb, length, None, Option, Some}
+use Rattle.std.specs.Prelude.{◌≡◌, Bool, cond, List, [], ℕ, ◌+◌, ◌*◌, eqb, ltb, length, None, Option, Some}
 use Rattle.records.specs.Numbers.{refusal_number}
 use Rattle.records.specs.declared.Refusal.{Refusal}
 use Rattle.records.specs.declared.Refusal.TheVariants.{UnknownEnclave, ImproperTag, RoomTooSmall}
@@ -47,7 +47,3 @@ room_first room count later = cond (ltb room (56 * (count + 2))) (Some RoomTooSm
 
 abbrev pub tag_first : Bool → Bool → Option Refusal
 tag_first proper known = cond proper (cond known None (Some UnknownEnclave)) (Some ImproperTag)
-
--- none of the three
-abbrev pub is_open : ℕ → ℕ → Bool → Bool → Bool
-is_open room count proper known = leb (56 * (count + 2)) room && proper && known

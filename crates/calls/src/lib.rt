@@ -2,7 +2,7 @@
 #![tactic(auto)]
 
 ghost use Rattle.std.specs.Prelude.{◌≡◌, ◌≤◌};
-ghost use Rattle.calls.specs.Called.{replied, is_open, room_first, tag_first};
+ghost use Rattle.calls.specs.Called.{replied, room_first, tag_first};
 
 use records::Refusal;
 use state::FederateCoordinationState;
@@ -37,14 +37,6 @@ pub fn with_reply(
         actions,
     };
     Called { state, reply }
-}
-
-// Whether none of 8, 7 and 3 refuses: asked first, so that a call that is taken makes no refusal.
-pub fn is_open(room: usize, count: usize, proper: bool, known: bool) -> bool
-    requires { count ≤ 32 }
-    ensures { result ≡ is_open room count proper known }
-{
-    56 * (count + 2) <= room && proper && known
 }
 
 // 8 before a refusal that comes later, or before none.

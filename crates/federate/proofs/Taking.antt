@@ -10,7 +10,6 @@ use native.Mathlib.Omega.{arith}
 use lib.Dec.{T}
 use lib.IntN.{pos}
 use lib.ListN.{length, get_or}
-use Rattle.tags.specs.Tags.{proper_if_present}
 use Rattle.records.specs.declared.Refusal.{Refusal}
 use Rattle.records.specs.declared.SchedulerMessage.{SchedulerMessage}
 use Rattle.rules.specs.Model.{CoordinationAction, Step}
@@ -30,7 +29,7 @@ use Rattle.publication.specs.Announce.{dropped_of}
 use Rattle.publication.proofs.Neat.{parts_whole, row-whole}
 use Rattle.calls.specs.Called.{lent, refusal_of, replied}
 use Rattle.calls.specs.declared.Called.{Called}
-use Rattle.calls.proofs.Standing.{Standing, is-so}
+use Rattle.calls.proofs.Standing.{is-so}
 use Rattle.calls.proofs.Ends.{Ends, ends-taken, actions-fit}
 use Rattle.completion.specs.declared.Advanced.{Advanced}
 use Rattle.completion.specs.declared.Saying.{Saying}
@@ -39,10 +38,10 @@ use Rattle.completion.specs.Advance.{Spends, Steps, sayings}
 use Rattle.dispatch.specs.declared.Concluded.{Concluded}
 use Rattle.dispatch.specs.declared.Said.{Said}
 use Rattle.dispatch.specs.declared.Said.TheVariants.{Word, Announcement, Completion as Completing}
-use Rattle.dispatch.specs.Messages.{call_of, enclave_of, tag_of, Names, actions_of, drops, Concludes}
+use Rattle.dispatch.specs.Messages.{call_of, enclave_of, Names, actions_of, drops, Concludes}
 use Rattle.emission.specs.Written.{Written, Adds}
 use Rattle.emission.proofs.Adding.{none_written}
-use Rattle.federate.proofs.Message.{is-silent, message-proper, Sits}
+use Rattle.federate.proofs.Message.{is-silent, message-proper}
 use Rattle.federate.proofs.Scheduler.{own_end, whole_end, halfway-neat, own-good, spent-is, end-beyond, end-neat, step_is}
 use Rattle.federate.proofs.Refusing.{out-spent, open-call}
 use Rattle.federate.proofs.Entering.{Enters}

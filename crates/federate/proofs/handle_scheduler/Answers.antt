@@ -1,32 +1,21 @@
 -- `federate::handle_scheduler` meets its promise: 27, 8, 7 and 3 first; then the own rule's first half is decided and stored, its second half concluded, the
 -- completion step taken; 9 puts the enclave's cells back, and else the records of what was said stand in the room. Assumes nothing.
 use mathlib.Core.Path.{◌≡◌, refl, sym, ap, ◌∙◌, subst}
-use mathlib.Core.Bool.{true}
-use Prim.Native.Nat.{ℕ, ◌+◌, ◌*◌, ◌≤◌, ◌<◌}
-use native.Mathlib.Omega.{arith}
-use lib.Dec.{T, ltb}
-use lib.ListN.{length, get_or}
+use Prim.Native.Nat.{ℕ}
+use lib.Dec.{T}
+use lib.ListN.{get_or}
 use borrow.Author.Rules.{rules}
-use borrow.Author.Tests.{ltb-true}
-use Rattle.tags.specs.Tags.{proper_if_present}
 use Rattle.rules.specs.Calls.{own_step}
 use Rattle.state.specs.declared.FederateCoordinationState.{FederateCoordinationState as Held}
-use Rattle.state.specs.View.{view}
 use Rattle.state.specs.declared.Decided.{Decided}
 use Rattle.state.specs.Parts.{Sized, parts_of, with_row}
 use Rattle.state.specs.Decides.{Decides, halfway, neat_parts}
-use Rattle.state.proofs.Rows.{apart}
-use Rattle.calls.specs.Called.{lent, room_first}
-use Rattle.calls.proofs.Standing.{is-so, Standing, standing}
-use Rattle.calls.proofs.Ends.{First, ends-27, ends-first, first-shut, open-three}
+use Rattle.calls.proofs.Standing.{is-so}
 use Rattle.completion.specs.declared.Advanced.{Advanced}
 use Rattle.completion.specs.Advance.{Advances}
 use Rattle.dispatch.specs.declared.Concluded.{Concluded}
-use Rattle.dispatch.specs.Messages.{call_of, enclave_of, Concludes}
-use Rattle.federate.specs.Places.{place_of}
-use Rattle.federate.proofs.Message.{takes-room, is-silent, message-proper, sits}
+use Rattle.dispatch.specs.Messages.{call_of, Concludes}
 use Rattle.federate.proofs.Scheduler.{own_end, whole_end}
-use Rattle.federate.proofs.Refusing.{known_is}
 use Rattle.federate.proofs.Entering.{Enters, enters, near, out-first}
 use Rattle.federate.proofs.Taking.{observed_end, stored_end, end-stored, end-aside, end-cleared, end_kept, end-dropped, end-held, halfway-beside, own-beside, decides, neat, halfway-holds, own-holds, ends-9, ends-0}
 use Rattle.federate.proofs.handle_scheduler.Goals as goal
