@@ -34,16 +34,23 @@ fn is_mark(t: Tag) -> bool
     tags::same_tag(t, ABSENT)
 }
 
-// Kept: the first test, which `is_proper` implies: without it a call at 32 enclaves takes 2,913 instructions, over the 2,656 of the Rust (b).
+fn is_mark_or_proper(t: Tag) -> bool
+    ensures { result ≡ is_cell t }
+{
+    is_mark(t) || tags::is_proper(t)
+}
+
+// Kept: the first test, which `is_proper` implies (b): without it a call at 32 enclaves takes 2,991 instructions in place of 2,450, over the 2,656 of the Rust.
 fn is_cell(t: Tag) -> bool
     ensures { result ≡ is_cell t }
 {
     if t.nanoseconds == 0 {
         return true;
     }
-    is_mark(t) || tags::is_proper(t)
+    is_mark_or_proper(t)
 }
 
+// Kept: the started cell without that test (b), as most enclaves have begun nothing: by `is_cell` a call at 32 enclaves takes 2,514 instructions in place of 2,450.
 fn place_is_sound(state: &FederateCoordinationState, i: usize) -> bool
     requires { i < 32 }
     ensures { result ≡ sound_at state.now i }
@@ -52,7 +59,7 @@ fn place_is_sound(state: &FederateCoordinationState, i: usize) -> bool
         && zero_unless(state.acknowledged[i], state.completion_observed[i])
         && is_cell(state.tag_at(i))
         && is_cell(state.tag_at(COMPLETED + i))
-        && is_cell(state.tag_at(STARTED + i))
+        && is_mark_or_proper(state.tag_at(STARTED + i))
 }
 
 // The places are walked from the last, so that one test bounds an index and has it below the next.
