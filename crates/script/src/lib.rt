@@ -183,7 +183,7 @@ fn read_participants(
         put_index(&mut indices, k, index);
         at = next;
     }
-    let count = if number < 33 { number as usize } else { 33 };
+    let count = number.min(33) as usize;
     Ok((Participants { indices, count }, at))
 }
 

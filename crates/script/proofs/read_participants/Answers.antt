@@ -1,7 +1,9 @@
 -- `script::read_participants` gathers so many indices: what is gathered of the rest from here, over the places filled, is what is gathered of all.
 -- Assumes nothing.
-use mathlib.Core.Path.{ap, ◌∙◌}
+use mathlib.Core.Path.{◌≡◌, ap, ◌∙◌}
+use Prim.Native.Nat.{min}
 use native.Mathlib.Omega.{arith}
+use borrow.Author.Rules.{rules}
 use lib.ListN.{length, length-set}
 use Rattle.numerals.proofs.Numbers.{number-le}
 use Rattle.events.specs.Events.{word_of}
@@ -25,10 +27,7 @@ loop-k-preserved c = let l = c.loop-k in
       long = ap length c.put_index.ensures ∙ length-set _ _ _ ∙ l.invariant.long;
     }
 
-pub returns-then-number-lt33 : goal.returns-then-number-lt33
-returns-then-number-lt33 c = let l = c.loop-k in
-    gather-done word_of _ _ c.args.number l.k l.at _ l.invariant.rest _ (omega arith) (omega arith)
-
-pub returns-else-number-lt33 : goal.returns-else-number-lt33
-returns-else-number-lt33 c = let l = c.loop-k in
-    gather-done word_of _ _ c.args.number l.k l.at _ l.invariant.rest _ (omega arith) (omega arith)
+pub returns : goal.returns
+returns c = let l = c.loop-k in
+    let few : c.min-count.result ≡ min 33 c.args.number = search rules in
+    gather-done word_of _ _ c.args.number l.k l.at _ l.invariant.rest _ (omega arith) few
