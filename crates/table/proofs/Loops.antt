@@ -3,15 +3,13 @@
 use Rattle.std.specs.Prelude.{None, Option, Some}
 use mathlib.Core.Path.{◌≡◌, refl, sym, ap, ◌∙◌, subst}
 use mathlib.Core.Bool.{Bool, true, false, not, cond, ◌&&◌, ◌||◌, and-false, or-true}
-use mathlib.Core.List.{List, [], ◌∷◌}
+use mathlib.Core.List.{List}
 use Prim.Native.Nat.{ℕ, zero, suc, ◌+◌, ◌-◌, ◌≤◌, ◌<◌}
-use native.Mathlib.Nat.{not-suc-le-zero}
 use native.Mathlib.Numerals.{add-one}
 use native.Mathlib.Omega.{arith}
 use borrow.Author.Tests.{not-true, not-false, eq-eqb, ne_eqb, lt-ltb, le-ltb, ltb-false}
 use lib.Dec.{T, eqb, ltb}
-use lib.ListN.{length, get_or, set}
-use lib.Seq.{set-get_or}
+use lib.ListN.{get_or}
 use Rattle.std.specs.Option.{unwrap_or}
 use Rattle.tags.specs.Tags.{◌≤ₜ◌, ◌<ₜ◌, is_present, is_below, lesser_of, greater_of, lesser_present, greater_present, lesser_of_both}
 use Rattle.tags.proofs.Order.{≤ₜ-trans, ≤ₜ-total, greater-le-left, lesser-left, lesser-right, greater-comm, greater-assoc}
@@ -20,7 +18,7 @@ use Rattle.state.specs.declared.FederateCoordinationState.{FederateCoordinationS
 use Rattle.state.specs.Cells.{absent, is_absent, optional_of, cell_of}
 use Rattle.state.specs.View.{tag_at}
 use Rattle.state.specs.Walk.{all_of, any_of, place_from, least_from, greatest_from}
-use Rattle.state.specs.Parts.{Apart, cleared, placed}
+use Rattle.state.specs.Parts.{Apart, placed}
 use Rattle.table.specs.declared.Scanned.{Scanned}
 use Rattle.table.specs.declared.Scanned.TheVariants.{Blocked, Waiting, Answered}
 
@@ -95,36 +93,6 @@ place-only es n e g d h t =
     holds j = eqb (get_or es j 0) e
 
 pub ruleset seeks = (place-start, place-turn, place_found, place-done, eq-eqb, ne_eqb)
-
--- ---- up: cells cleared
-
-pub clear-turn : (l : List ℕ) (i : ℕ) → i < length l → set (cleared i l) i 0 ≡ cleared (i + 1) l
-clear-turn l i h = go l i h ∙ rw add-one refl
-  where
-    go : (l : List ℕ) (i : ℕ) → i < length l → set (cleared i l) i 0 ≡ cleared (suc i) l
-    go [] i h = absurd (not-suc-le-zero h)
-    go (x ∷ l) zero h = refl
-    go (x ∷ l) (suc i) h = ap (λ t. 0 ∷ t) (go l i (omega arith))
-
--- the first i places within the first n
-abbrev pub within : ℕ → ℕ → ℕ
-within i n = cond (ltb i n) i n
-
-pub within-past : (i n : ℕ) → n ≤ i → within i n ≡ n
-within-past i n h = rw (le-ltb i n h) refl
-
-within-next : (i n : ℕ) → i < n → within (i + 1) n ≡ i + 1
-within-next i n h = go (ltb (i + 1) n) refl
-  where
-    go : (b : Bool) → ltb (i + 1) n ≡ b → cond b (i + 1) n ≡ i + 1
-    go true q = refl
-    go false q = let z = ltb-false (i + 1) n q in omega arith
-
-pub clear_within : (l m : List ℕ) (i n : ℕ) → i < length l → i < n → m ≡ cleared (within i n) l → set m i 0 ≡ cleared (within (i + 1) n) l
-clear_within l m i n h k e = rw (e, lt-ltb i n k, within-next i n k) (clear-turn l i h)
-
-pub clear-past : (l m : List ℕ) (i n : ℕ) → n ≤ i → m ≡ cleared (within i n) l → set m i (get_or m i 0) ≡ cleared (within (i + 1) n) l
-clear-past l m i n h e = set-get_or m i 0 ∙ e ∙ ap (λ k. cleared k l) (within-past i n h ∙ sym (within-past (i + 1) n (omega arith)))
 
 -- ---- down: the cell in hand means a fold of those present
 

@@ -63,10 +63,7 @@ pub fn clear(cells: &mut [u8; 32], count: usize)
     requires { count ≤ 32 }
     ensures { cells.new ≡ cleared count cells.old }
 {
-    // All cells are walked and stored, which the back end does at once; up to the count it would call a function of the C library.
-    for (i, cell) in cells.iter_mut().enumerate() {
-        *cell = if i < count { 0 } else { *cell };
-    }
+    cells[..count].fill(0);
 }
 
 // The published flags without those of the participants whose places `leaves` tells; a flag past the count is as it was.
