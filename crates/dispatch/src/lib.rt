@@ -84,6 +84,7 @@ pub fn participant_stopped(parts: Parts) -> Decided
 }
 
 // Failed.
+// Kept: apart from `participant_stopped`, which stores no failure; a stopped federate keeps what it has under either.
 pub fn fail(parts: Parts, enclave: Option<u32>) -> Decided
     ensures step { (e : ℕ) → Decides (fail_of enclave) e parts result }
     ensures neat { T (neat_parts parts) → T (neat_parts result.parts) }

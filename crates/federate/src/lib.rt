@@ -49,6 +49,7 @@ fn place_for(
     }
 }
 
+// What the message's own rule can change.
 fn parts_at(state: &FederateCoordinationState, place: usize) -> Parts
     requires { place < 32 }
     ensures { result ≡ parts_of state.now place }
@@ -62,8 +63,8 @@ fn parts_at(state: &FederateCoordinationState, place: usize) -> Parts
     }
 }
 
-// One scheduler message: 27, 8, 7, 3 and 9, else the rules' step with its records in the room. One straight line over the state that came in, since each
-// hop of it by value costs a copy; the entry's cells are put back where the generation is spent.
+// One scheduler message: 27, 8, 7, 3 and 9, else the rules' step with its records in the room. The entry's cells are put back where the generation is spent.
+// Kept: longer than 40 lines, one straight line over the state that came in, since each hop of it by value costs a copy.
 pub fn handle_scheduler(
     mut state: FederateCoordinationState,
     message: SchedulerMessage,

@@ -11,6 +11,7 @@ use records::{FederateAcquisition, FederatePublication, Refusal, SchedulerMessag
 use state::FederateCoordinationState;
 
 // The call that the event tells, with the enclaves that an `input` line names.
+// Kept: longer than 40 lines, a line or two an event; the six messages meet before their one call, which would be inlined six times.
 pub fn take(
     state: FederateCoordinationState,
     event: Option<Event>,
