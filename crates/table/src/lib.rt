@@ -36,10 +36,8 @@ pub fn seat_of(state: &FederateCoordinationState, enclave: u32) -> usize
     ensures { result ≡ place_from (λ j. eqb (get_or state.now.enclaves j 0) enclave) 0 state.now.count }
 {
     let guess = enclave as usize;
-    if guess < state.count {
-        if state.enclaves[guess] == enclave {
-            return guess;
-        }
+    if guess < state.count && state.enclaves[guess] == enclave {
+        return guess;
     }
     find(state, enclave).unwrap_or(state.count)
 }
