@@ -7,6 +7,7 @@ ghost use Rattle.tags.specs.Tags.{is_proper, is_present};
 ghost use Rattle.rules.specs.Acquisition.{is_newer, raised_horizon};
 ghost use Rattle.emission.specs.Written.{Adds};
 ghost use Rattle.state.specs.Cells.{optional_of, stored_of};
+ghost use Rattle.state.specs.declared.FederateCoordinationState.{FederateCoordinationState as Held};
 ghost use Rattle.state.specs.Decides.{Good};
 ghost use Rattle.grants.specs.Acquire.{is_stale, storing, brings_nothing, grantable_at, grants_of, Unpublished, Acquires};
 
@@ -72,9 +73,9 @@ fn raised_horizon(state: &FederateCoordinationState, tag: Tag) -> Tag
     state::optional_of(state.grant_horizon).map_or(tag, |h| tags::greater(h, tag))
 }
 
-// What an acquisition decides, the flags and the records aside.
+// What an acquisition decides, the flags and the records aside, in every state with these small parts.
 pub fn acquire(state: &FederateCoordinationState, acquisition: FederateAcquisition) -> Acquired
-    ensures { Good state.now → T (is_proper acquisition.granted) → Acquires acquisition.revision acquisition.granted state.now result }
+    ensures { (s : Held) → Good s → T (is_proper acquisition.granted) → s.coordination ≡ state.now.coordination → s.gate ≡ state.now.gate → s.grant_horizon ≡ state.now.grant_horizon → Acquires acquisition.revision acquisition.granted s result }
 {
     let FederateAcquisition { revision, granted } = acquisition;
     if is_outdated(&state.coordination, revision) {

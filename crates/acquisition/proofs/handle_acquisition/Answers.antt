@@ -93,7 +93,7 @@ returns-in_default c =
     let w = none at.After-room_first-refusal (sym c.is_some.ensures ∙ c.if-is_some.false) in
     let n = length a.room.now in
     let passed = acquire-taken n a.acquisition.revision a.acquisition.granted a.state st w.0 w.1 in
-    let decided = c.acquire-acquired.ensures st.good (is-so w.1) in
+    let decided = c.acquire-acquired.ensures a.state st.good (is-so w.1) refl refl refl in
     let o = stays-promised n a.acquisition.revision a.acquisition.granted a.state st passed c.acquire-acquired.result decided
     a.room.now _ c.in_default.is c.with_reply-in_default.ensures
     in
@@ -107,7 +107,7 @@ returns c =
     let w = none at.After-room_first-refusal (sym c.is_some.ensures ∙ c.if-is_some.false) in
     let n = length a.room.now in
     let passed = acquire-taken n a.acquisition.revision a.acquisition.granted a.state st w.0 w.1 in
-    let decided = c.acquire-acquired.ensures st.good (is-so w.1) in
+    let decided = c.acquire-acquired.ensures a.state st.good (is-so w.1) refl refl refl in
     let o = moves-promised n a.acquisition.revision a.acquisition.granted a.state st passed c.acquire-acquired.result decided c.in-Some.granted c.in-Some.is
     a.room.now _ _ _ _ _ _ w.0 c.add-advanced.ensures.adds c.add_grants-written.ensures c.unpublished-state.ensures c.with_reply-2.ensures
     in
