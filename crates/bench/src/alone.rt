@@ -1,5 +1,5 @@
 // The calls that take no state: openings, `delay`, the verdicts, and action records written and read.
-use crate::say::{say, say_bool, say_number, say_tag};
+use crate::say::Shown;
 use delay::Duration;
 use records::{CoordinationAction, CoordinationPhase, LifecyclePolicy, Observation};
 use state::FederateCoordinationState;
@@ -15,25 +15,9 @@ pub fn open<W: Write>(
     generation: u64,
 ) -> io::Result<FederateCoordinationState> {
     let opened = opening::new(enclaves, policy, 0, generation);
-    let refusal = opened.refusal;
-    say(out, b"opening")?;
-    say_number(out, records::refusal_number(refusal) as u64)?;
-    say(out, b"\n")?;
+    let refusal = records::refusal_number(opened.refusal);
+    writeln!(out, "opening {refusal}")?;
     Ok(opened.state)
-}
-
-fn show_delay<W: Write>(out: &mut W, tag: Tag, seconds: i64, nanoseconds: i32) -> io::Result<()> {
-    let offset = Duration {
-        seconds,
-        nanoseconds,
-    };
-    let delayed = delay::delay(tag, offset);
-    let refusal = delayed.refusal;
-    let moved = delayed.tag;
-    say(out, b"delay")?;
-    say_number(out, records::refusal_number(refusal) as u64)?;
-    say_tag(out, moved)?;
-    say(out, b"\n")
 }
 
 // P4 is the first.
@@ -43,53 +27,54 @@ pub fn delays<W: Write>(out: &mut W) -> io::Result<()> {
         nanoseconds: 500000000,
         microstep: 8,
     };
-    let forever = Tag {
-        seconds: 9223372036854775807,
-        nanoseconds: 999999999,
-        microstep: 18446744073709551615,
-    };
-    show_delay(out, start, 0, -600000000)?;
-    show_delay(out, start, 0, 0)?;
-    show_delay(out, start, -3, -700000000)?;
-    show_delay(out, start, 1, -1)?;
-    show_delay(out, forever, 0, 0)?;
-    show_delay(out, forever, 0, 1)
+    let forever = Tag::FOREVER;
+    for (tag, seconds, nanoseconds) in [
+        (start, 0, -600000000),
+        (start, 0, 0),
+        (start, -3, -700000000),
+        (start, 1, -1),
+        (forever, 0, 0),
+        (forever, 0, 1),
+    ] {
+        let offset = Duration {
+            seconds,
+            nanoseconds,
+        };
+        let delayed = delay::delay(tag, offset);
+        let refusal = records::refusal_number(delayed.refusal);
+        let moved = Shown(Some(delayed.tag));
+        writeln!(out, "delay {refusal} {moved}")?;
+    }
+    Ok(())
 }
 
 // 0 counts, 1 is ignored, 2 is refused.
-fn show_verdict<W: Write>(
-    out: &mut W,
-    phase: CoordinationPhase,
-    observation: Observation,
-) -> io::Result<()> {
-    let verdict = verdicts::verdict(phase, observation);
-    say(out, b"verdict")?;
-    say_number(out, u8::from(verdict) as u64)?;
-    say(out, b"\n")
-}
-
 pub fn verdicts<W: Write>(out: &mut W) -> io::Result<()> {
-    show_verdict(out, CoordinationPhase::Probing, Observation::Probed)?;
-    show_verdict(out, CoordinationPhase::Parking, Observation::Probed)?;
-    show_verdict(out, CoordinationPhase::Active, Observation::Probed)
+    for (phase, observation) in [
+        (CoordinationPhase::Probing, Observation::Probed),
+        (CoordinationPhase::Parking, Observation::Probed),
+        (CoordinationPhase::Active, Observation::Probed),
+    ] {
+        let verdict = u8::from(verdicts::verdict(phase, observation));
+        writeln!(out, "verdict {verdict}")?;
+    }
+    Ok(())
 }
 
-// The kind of the action that was read, or 28.
-fn say_read<W: Write>(out: &mut W, bytes: &[u8]) -> io::Result<()> {
+// The kind of the action that is read, or 28.
+fn read(bytes: &[u8]) -> u8 {
     match actions::read_action(bytes) {
-        Err(refusal) => say_number(out, u8::from(refusal) as u64),
-        Ok(action) => say_number(out, u8::from(action) as u64),
+        Err(refusal) => u8::from(refusal),
+        Ok(action) => u8::from(action),
     }
 }
 
 // Whether the record fits at the place of a room for one, and what the room then holds.
 fn show_record<W: Write>(out: &mut W, place: usize, action: CoordinationAction) -> io::Result<()> {
     let mut room = [0u8; 56];
-    let fits = actions::write_action(&mut room, place, action);
-    say(out, b"record")?;
-    say_bool(out, fits)?;
-    say_read(out, &room)?;
-    say(out, b"\n")
+    let fits = u8::from(actions::write_action(&mut room, place, action));
+    let found = read(&room);
+    writeln!(out, "record {fits} {found}")
 }
 
 // A record past the room, one of an improper tag and a good one; then bytes that are none: too few, and with an unused byte set.
@@ -102,13 +87,11 @@ pub fn records<W: Write>(out: &mut W) -> io::Result<()> {
     show_record(out, 1, CoordinationAction::Stop)?;
     show_record(out, 0, CoordinationAction::AdvanceHorizon { tag })?;
     show_record(out, 0, CoordinationAction::Park { revision: 7 })?;
-    let short = [10u8; 55];
     let mut unused = [0u8; 56];
     unused[0] = 10;
     unused[55] = 1;
-    say(out, b"read")?;
-    say_read(out, &short)?;
-    say(out, b"\nread")?;
-    say_read(out, &unused)?;
-    say(out, b"\n")
+    let short = read(&[10; 55]);
+    let unused = read(&unused);
+    writeln!(out, "read {short}")?;
+    writeln!(out, "read {unused}")
 }

@@ -1,49 +1,30 @@
 // Every query by its number, with its answer's numbers: refusal, presence, number, and the tags if there are any.
-use crate::say::{say, say_bool, say_number, say_tag};
+use crate::say::Shown;
 use plain::TagNumbers;
 use state::FederateCoordinationState;
 use std::io;
 use std::io::Write;
 
-fn say_if_present<W: Write>(out: &mut W, numbers: TagNumbers) -> io::Result<()> {
-    if numbers.present {
-        let tag = numbers.tag;
-        return say_tag(out, tag);
-    }
-    say(out, b" -")
-}
-
-fn ask_one<W: Write>(
-    out: &mut W,
-    state: FederateCoordinationState,
-    question: u8,
-    enclave: u32,
-) -> io::Result<()> {
-    let asked = asking::ask(state, question, enclave);
-    let first = asked.first;
-    let second = asked.second;
-    say(out, b";")?;
-    say_number(out, question as u64)?;
-    say(out, b":")?;
-    say_number(out, asked.refusal as u64)?;
-    say_bool(out, asked.present)?;
-    say_number(out, asked.number)?;
-    say_if_present(out, first)?;
-    say_if_present(out, second)
+fn shown(numbers: TagNumbers) -> Shown {
+    Shown(numbers.present.then_some(numbers.tag))
 }
 
 // Every query, with the candidate of this enclave.
 pub fn ask<W: Write>(
     out: &mut W,
-    case: &[u8],
+    case: &str,
     state: FederateCoordinationState,
     enclave: u32,
 ) -> io::Result<()> {
-    let mut question: u8 = 1;
-    say(out, case)?;
-    while question < 12 {
-        ask_one(out, state, question, enclave)?;
-        question += 1;
+    write!(out, "{case}")?;
+    for question in 1..12u8 {
+        let asked = asking::ask(state, question, enclave);
+        let refusal = asked.refusal;
+        let present = u8::from(asked.present);
+        let number = asked.number;
+        let first = shown(asked.first);
+        let second = shown(asked.second);
+        write!(out, "; {question}: {refusal} {present} {number} {first} {second}")?;
     }
-    say(out, b"\n")
+    writeln!(out)
 }

@@ -7,10 +7,7 @@
 mod busy;
 mod given;
 mod idle;
-mod steps;
 mod totals;
-
-ghost use Rattle.std.specs.Prelude.{◌≤◌};
 
 use given::Load;
 use records::LifecyclePolicy;
@@ -21,38 +18,27 @@ use totals::Totals;
 // A federate that is kept alive is parked without a probe.
 fn policy_of(load: Load) -> LifecyclePolicy {
     if load.idle {
-        return LifecyclePolicy::TerminateWhenIdle;
+        LifecyclePolicy::TerminateWhenIdle
+    } else {
+        LifecyclePolicy::KeepAlive
     }
-    LifecyclePolicy::KeepAlive
 }
 
-fn open(load: Load) -> FederateCoordinationState
-    requires { (load.count ≤ 32) × (load.stride ≤ 4095) }
-{
-    let list = steps::enclaves(load.stride);
-    let count = load.count;
-    let opened = opening::new(&list[..count], policy_of(load), 0, 0);
-    opened.state
+fn open(load: Load) -> FederateCoordinationState {
+    opening::new(&load.enclaves()[..load.count], policy_of(load), 0, 0).state
 }
 
-fn play(load: Load) -> Totals
-    requires { (load.count ≤ 32) × (load.stride ≤ 4095) × (load.turns ≤ 100000) }
-{
-    let opened = open(load);
+fn play(load: Load) -> Totals {
     if load.idle {
-        let list = steps::enclaves(load.stride);
-        let count = load.count;
-        return idle::play(opened, load, &list[..count]);
+        idle::play(open(load), load)
+    } else {
+        busy::play(open(load), load)
     }
-    busy::play(opened, load)
 }
 
 fn main(rt: HostRuntime) -> io::Result<()> {
-    let mut bytes: [u8; 64] = [0; 64];
+    let mut bytes = [0; 64];
     let n = streams::read_full(&mut rt.reader(), &mut bytes)?;
-    let whole: &[u8] = &bytes;
-    let totals = play(given::read_load(&whole[..n]));
-    let actions = totals.actions;
-    let refusals = totals.refusals;
+    let Totals { actions, refusals } = play(given::read_load(&bytes[..n]));
     println!(rt; "{actions} {refusals}")
 }

@@ -1,31 +1,17 @@
 // What the calls of a load came to.
 use calls::Reply;
 
-#[derive(Clone, Copy)]
+#[derive(Clone, Copy, Default)]
 pub struct Totals {
     pub actions: u64,
     pub refusals: u64,
 }
 
-pub fn nothing() -> Totals {
-    Totals {
-        actions: 0,
-        refusals: 0,
-    }
-}
-
-fn sum(a: u64, b: u64) -> u64 {
-    if 18446744073709551615 - b < a {
-        return 18446744073709551615;
-    }
-    a + b
-}
-
-// The totals with one reply more.
-pub fn added(totals: Totals, reply: Reply) -> Totals {
-    let refusal = reply.refusal;
-    Totals {
-        actions: sum(totals.actions, reply.actions as u64),
-        refusals: sum(totals.refusals, records::refusal_number(refusal) as u64),
+impl Totals {
+    // One reply more.
+    pub fn add(&mut self, reply: Reply) {
+        let refusal = records::refusal_number(reply.refusal);
+        self.actions = self.actions.saturating_add(reply.actions as u64);
+        self.refusals = self.refusals.saturating_add(u64::from(refusal));
     }
 }
