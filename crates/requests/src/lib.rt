@@ -1,5 +1,5 @@
 // The calls of the rig host besides the scheduler's messages, by value: one call for those that take room, one for those of the gate that change the
-// state, and the parts of an answer. Each request and change is handed to the call that it names, which refuses what it refuses.
+// state. Each request and change is handed to the call that it names, which refuses what it refuses.
 #![tactic(auto)]
 
 ghost use Rattle.std.specs.Prelude.{◌≡◌, length};
@@ -8,7 +8,7 @@ ghost use Rattle.actions.specs.Record.{records_of};
 ghost use Rattle.calls.specs.Called.{lent, actions_of, Promised};
 ghost use Rattle.requests.specs.Named.{request_of, change_of};
 
-use calls::{Called, Reply};
+use calls::Called;
 use records::{
     CoordinationRevision, EnclaveIndex, FederateAcquisition, FederatePublication, Observation,
 };
@@ -67,17 +67,4 @@ pub fn change_gate(state: FederateCoordinationState, change: Change, enclaves: &
         Change::BeginTag(enclave, tag) => gate::begin_tag(state, enclave, tag),
         Change::InputPublishing => gate::input_publishing(state, enclaves),
     }
-}
-
-// The parts of an answer.
-pub fn state_of(called: Called) -> FederateCoordinationState
-    ensures { result ≡ called.state }
-{
-    called.state
-}
-
-pub fn reply_of(called: Called) -> Reply
-    ensures { result ≡ called.reply }
-{
-    called.reply
 }

@@ -25,10 +25,9 @@ pub fn handle_scheduler(
     ensures updates { Updates (lent (length room.old) (call_of message)) state.old state.new result }
     ensures bytes { room.new ≡ put_at room.old 0 (records_of (actions_of (lent (length room.old) (call_of message)) state.old)) }
 {
-    let old = *state;
-    let called = federate::handle_scheduler(old, message, room);
-    *state = requests::state_of(called);
-    requests::reply_of(called)
+    let called = federate::handle_scheduler(*state, message, room);
+    *state = called.state;
+    called.reply
 }
 
 // One of the other calls that take room.
@@ -40,18 +39,16 @@ pub fn handle_request(
     ensures updates { Updates (lent (length room.old) (request_of request)) state.old state.new result }
     ensures bytes { room.new ≡ put_at room.old 0 (records_of (actions_of (lent (length room.old) (request_of request)) state.old)) }
 {
-    let old = *state;
-    let called = requests::handle_request(old, request, room);
-    *state = requests::state_of(called);
-    requests::reply_of(called)
+    let called = requests::handle_request(*state, request, room);
+    *state = called.state;
+    called.reply
 }
 
 // One of the gate's calls that change the state.
 pub fn change_gate(state: &mut FederateCoordinationState, change: Change, enclaves: &[u32]) -> Reply
     ensures { Updates (lent 0 (change_of change enclaves.now)) state.old state.new result }
 {
-    let old = *state;
-    let called = requests::change_gate(old, change, enclaves);
-    *state = requests::state_of(called);
-    requests::reply_of(called)
+    let called = requests::change_gate(*state, change, enclaves);
+    *state = called.state;
+    called.reply
 }
