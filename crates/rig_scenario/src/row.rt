@@ -1,135 +1,126 @@
 // A row of the scenario: the letter of a call, an enclave, a tag and a number, a byte each. Enclave `-` is none, tag `-` is absent and `!` improper; a
 // digit of a tag is its seconds.
 use records::{
-    FederateAcquisition, FederatePublication, Observation, SchedulerMessage,
+    EnclaveIndex, FederateAcquisition, FederatePublication, Observation, SchedulerMessage,
 };
 use requests::{Change, Request};
 use tags::Tag;
 
+// What a row asks for.
+#[derive(Clone, Copy)]
+pub enum Asked {
+    Change(Change),
+    Request(Request),
+    Message(SchedulerMessage),
+}
+
+// A row's call, and its enclave, which an input notice names alone.
 #[derive(Clone, Copy)]
 pub struct Row {
-    pub kind: u8,
-    pub named: bool,
-    pub enclave: u32,
-    pub tag: Option<Tag>,
-    pub number: u64,
+    pub asked: Asked,
+    pub enclave: Option<EnclaveIndex>,
+}
+
+// The bytes after the letter, read; where a call names an enclave or a tag that is absent, it names 0 or ZERO.
+#[derive(Clone, Copy)]
+struct Given {
+    enclave: Option<EnclaveIndex>,
+    tag: Option<Tag>,
+    number: u64,
 }
 
 fn digit(byte: u8) -> u8 {
-    if byte < b'0' {
-        return 0;
-    }
-    byte - b'0'
+    byte.saturating_sub(b'0')
 }
 
 fn tag_of(byte: u8) -> Option<Tag> {
-    if byte == b'-' {
-        return None;
-    }
-    if byte == b'!' {
-        return Some(Tag {
-            seconds: 1,
-            nanoseconds: -1,
-            microstep: 0,
-        });
-    }
+    let (seconds, nanoseconds) = match byte {
+        b'-' => return None,
+        b'!' => (1, -1),
+        _ => (i64::from(digit(byte)), 0),
+    };
     Some(Tag {
-        seconds: i64::from(digit(byte)),
-        nanoseconds: 0,
+        seconds,
+        nanoseconds,
         microstep: 0,
     })
 }
 
-pub fn row_of(kind: u8, enclave: u8, tag: u8, number: u8) -> Row {
-    Row {
-        kind,
-        named: enclave != b'-',
-        enclave: digit(enclave) as u32,
-        tag: tag_of(tag),
-        number: digit(number) as u64,
-    }
-}
-
-fn tag_or_zero(tag: Option<Tag>) -> Tag {
-    match tag {
-        None => Tag::ZERO,
-        Some(t) => t,
-    }
-}
-
-fn enclave_or_none(row: Row) -> Option<u32> {
-    if row.named {
-        return Some(row.enclave);
-    }
-    None
-}
-
 // `a` active, `p` publish, `c` complete, `o` observed, `s` stopped; any other failed.
-pub fn message_of(row: Row) -> SchedulerMessage {
-    let kind = row.kind;
-    let enclave = row.enclave;
-    let next_event = row.tag;
-    match kind {
+fn message_of(letter: u8, given: Given) -> SchedulerMessage {
+    let enclave = given.enclave.unwrap_or(0);
+    match letter {
         b'a' => SchedulerMessage::Active { enclave },
         b'p' => SchedulerMessage::Publish {
             enclave,
-            next_event,
+            next_event: given.tag,
         },
         b'c' => SchedulerMessage::CompleteTag {
             enclave,
-            tag: tag_or_zero(next_event),
+            tag: given.tag.unwrap_or(Tag::ZERO),
             network_input: true,
         },
         b'o' => SchedulerMessage::CompletionObserved {
             enclave,
-            generation: row.number,
+            generation: given.number,
         },
         b's' => SchedulerMessage::ParticipantStopped { enclave },
         _ => SchedulerMessage::Failed {
-            enclave: enclave_or_none(row),
+            enclave: given.enclave,
         },
-    }
-}
-
-fn acquisition_of(row: Row) -> FederateAcquisition {
-    let tag = row.tag;
-    FederateAcquisition {
-        revision: row.number,
-        granted: tag_or_zero(tag),
-    }
-}
-
-fn publication_of(row: Row) -> FederatePublication {
-    let next_event = row.tag;
-    FederatePublication {
-        revision: row.number,
-        next_event,
-        grant_horizon: None,
     }
 }
 
 // `A` acquire, `S` sent, `P` probed, `K` parked, `R` rechecked, `I` idle, `G` progress; any other stop.
-pub fn request_of(row: Row) -> Request {
-    let kind = row.kind;
-    match kind {
-        b'A' => Request::Acquisition(acquisition_of(row)),
-        b'S' => Request::PublicationSent(publication_of(row)),
-        b'P' => Request::Observation(row.enclave, row.number, Observation::Probed),
-        b'K' => Request::Observation(row.enclave, row.number, Observation::Parked),
-        b'R' => Request::Observation(row.enclave, row.number, Observation::Rechecked),
-        b'I' => Request::IdleConfirmation(row.number),
+fn request_of(letter: u8, given: Given) -> Request {
+    let enclave = given.enclave.unwrap_or(0);
+    let revision = given.number;
+    match letter {
+        b'A' => Request::Acquisition(FederateAcquisition {
+            revision,
+            granted: given.tag.unwrap_or(Tag::ZERO),
+        }),
+        b'S' => Request::PublicationSent(FederatePublication {
+            revision,
+            next_event: given.tag,
+            grant_horizon: None,
+        }),
+        b'P' => Request::Observation(enclave, revision, Observation::Probed),
+        b'K' => Request::Observation(enclave, revision, Observation::Parked),
+        b'R' => Request::Observation(enclave, revision, Observation::Rechecked),
+        b'I' => Request::IdleConfirmation(revision),
         b'G' => Request::InputProgress,
         _ => Request::Stop,
     }
 }
 
 // `1` input horizon, `2` begin; any other an input notice.
-pub fn change_of(row: Row) -> Change {
-    let kind = row.kind;
-    let tag = row.tag;
-    match kind {
-        b'1' => Change::InputHorizon(tag),
-        b'2' => Change::BeginTag(row.enclave, tag_or_zero(tag)),
+fn change_of(letter: u8, given: Given) -> Change {
+    match letter {
+        b'1' => Change::InputHorizon(given.tag),
+        b'2' => Change::BeginTag(given.enclave.unwrap_or(0), given.tag.unwrap_or(Tag::ZERO)),
         _ => Change::InputPublishing,
     }
+}
+
+// Digits are changes of the gate, capitals the other calls that take room, small letters the scheduler's messages.
+pub fn row_of(letter: u8, enclave: u8, tag: u8, number: u8) -> Row {
+    let enclave = if enclave == b'-' {
+        None
+    } else {
+        Some(u32::from(digit(enclave)))
+    };
+    let given = Given {
+        enclave,
+        tag: tag_of(tag),
+        number: u64::from(digit(number)),
+    };
+    let asked = if letter < b'A' {
+        Asked::Change(change_of(letter, given))
+    } else if letter < b'a' {
+        Asked::Request(request_of(letter, given))
+    } else {
+        Asked::Message(message_of(letter, given))
+    };
+    Row { asked, enclave }
 }
