@@ -47,7 +47,7 @@ fn valued_call(state: FederateCoordinationState, row: Row, room: &mut [u8]) -> C
     }
 }
 
-// All rows of the file, five bytes each, from this state, in two rooms that are alike.
+// The first 60 rows of the file, five bytes each, from this state, in two rooms that are alike.
 fn play<W: Write>(
     out: &mut W,
     name: &str,
@@ -59,7 +59,7 @@ fn play<W: Write>(
     let mut calls: usize = 0;
     let mut agreed: usize = 0;
     write!(out, "{name}")?;
-    for bytes in rows.chunks(5) {
+    for bytes in rows.chunks(5).take(60) {
         if let [letter, enclave, tag, number, ..] = bytes {
             let row = row::row_of(*letter, *enclave, *tag, *number);
             let lent = lent_call(state, row, room);
