@@ -124,6 +124,7 @@ impl From<Answer<Option<Option<Tag>>>> for AskedNumbers {
 }
 
 // The query of this number; the enclave is that of query 11.
+// Kept: a match on the number that a host gives, which is the C interface.
 #[tactic(auto, unfolding(crate::specs::Asked::asked_of))]
 pub fn ask(state: FederateCoordinationState, question: u8, enclave: u32) -> AskedNumbers
     ensures { result ≡ asked_of question enclave state }

@@ -7,6 +7,7 @@ ghost use Rattle.calls.specs.Called.{replied, room_first, tag_first};
 use records::Refusal;
 use state::FederateCoordinationState;
 
+// Kept: an answer and a count beside the refusal, since document 01 says of a refused call what they are (`Promised`).
 #[derive(Clone, Copy, PartialEq, Eq)]
 pub struct Reply {
     // Why the call was refused, or none where it was taken.

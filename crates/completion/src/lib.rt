@@ -233,6 +233,7 @@ fn advance_to(
 }
 
 // After every taken scheduler message, if running.
+// Kept: the phase by its number, as the state's cell holds it for C.
 pub fn advance_completion(
     state: &FederateCoordinationState,
     phase: u8,

@@ -19,6 +19,7 @@ pub struct Duration {
 }
 
 // The answer of `delay`: the delayed tag, or the refusal and the tag as it was.
+// Kept: a tag beside the refusal, since document 01 has a refused delay return its tag (`delay_of`).
 #[derive(Clone, Copy, PartialEq, Eq)]
 pub struct Delayed {
     pub refusal: Option<Refusal>,

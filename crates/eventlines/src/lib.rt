@@ -17,6 +17,7 @@ struct Fields<'a> {
 }
 
 // What the fields of an `input` line name: how many enclaves, and these, with 0 after them.
+// Kept: an array with a count beside it, since no heap is used.
 #[derive(Clone, Copy)]
 struct Named {
     count: usize,

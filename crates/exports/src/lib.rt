@@ -17,6 +17,7 @@ use records::{LifecyclePolicy, Refusal};
 use state::FederateCoordinationState;
 
 // 0 and the opened state, or why there is none and the blank state of no participant.
+// Kept: here and below, a number for the refusal, the policy and the question, which is the C interface.
 #[repr(C)]
 #[derive(Clone, Copy)]
 pub struct OpenedNumbers {

@@ -33,6 +33,7 @@ struct Moved {
 }
 
 // The verdict on an observation of this revision; one that is not heard is ignored.
+// Kept: here and below, phases, the policy and observations by the numbers that the state's cells hold for C.
 fn judged(
     phase: u8,
     current: CoordinationRevision,

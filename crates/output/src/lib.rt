@@ -27,6 +27,7 @@ pub fn list_script<W: Write>(out: &mut W, script: &[u8], room: &mut [u8]) -> io:
     }
     let mut running = opened.start;
     let mut budget: usize = 4096;
+    // Kept: a while, since a run tells how much of the budget is left.
     while 0 < budget {
         let ran = run::run(script, running, budget, room);
         write_listing(out, room, ran.written)?;

@@ -16,6 +16,7 @@ use records::{CoordinationAction, Observation, Refusal};
 use tags::Tag;
 
 // A tag that may be absent. An absent one's numbers are not looked at where a host gives them, and are 0 where it gets them.
+// Kept: here and below, flags beside values and numbers for kinds, refusals and answers, which is C's layout.
 #[repr(C)]
 #[derive(Clone, Copy)]
 pub struct TagNumbers {

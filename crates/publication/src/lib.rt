@@ -78,6 +78,7 @@ pub fn activate(parts: Parts) -> Decided
 }
 
 // What an unchanged candidate repeats in a phase, if anything.
+// Kept: here and below, a phase and the policy by the numbers that the state's cells hold for C.
 fn repeated(phase: u8) -> Option<Notice>
     ensures { (e v : ℕ) → repeated (phase_of phase) v ≡ said_of result e v }
 {

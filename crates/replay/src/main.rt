@@ -4,16 +4,12 @@
 
 use std::io;
 
-// Room for a script of more bytes than one may have, and for the listing of ten events at a time.
-fn room() -> [u8; 66000] {
-    [0; 66000]
-}
-
 fn main(rt: HostRuntime) -> io::Result<()> {
     let mut input = rt.reader();
     let mut out = io::writer(&rt);
-    let mut text = room();
-    let mut listing = room();
+    // Room for a script of more bytes than one may have, and for the listing of ten events at a time. Kept: fixed, since no heap is used.
+    let mut text = [0; 66000];
+    let mut listing = [0; 66000];
     for _ in 0..100000 {
         if !output::list_next(&mut input, &mut out, &mut text, &mut listing)? {
             break;

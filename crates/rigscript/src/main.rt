@@ -3,20 +3,11 @@
 
 use std::io;
 
-// One byte more than a script may have, so that a longer one shows.
-fn script_room() -> [u8; 65537] {
-    [0; 65537]
-}
-
-// Room for the listing of ten events at a time.
-fn listing_room() -> [u8; 56000] {
-    [0; 56000]
-}
-
 fn main(rt: HostRuntime) -> io::Result<()> {
-    let mut bytes = script_room();
+    // One byte more than a script may have, so that a longer one shows. Kept: fixed, since no heap is used.
+    let mut bytes = [0; 65537];
     let n = streams::read_full(&mut rt.reader(), &mut bytes)?;
-    let whole: &[u8] = &bytes;
-    let mut room = listing_room();
-    output::list_script(&mut io::writer(&rt), &whole[..n], &mut room)
+    // Room for the listing of ten events at a time.
+    let mut room = [0; 56000];
+    output::list_script(&mut io::writer(&rt), &bytes[..n], &mut room)
 }

@@ -22,6 +22,7 @@ pub struct BadScript {
 }
 
 // The first 33 of the participants, with 0 after them, and how many these are: at most 32 open, and a thirty-third says that there are too many.
+// Kept: an array with a count beside it, since no heap is used.
 #[derive(Clone, Copy)]
 pub struct Participants {
     pub indices: [u32; 33],

@@ -187,6 +187,7 @@ pub fn lesser_present(m: Option<Tag>, n: Option<Tag>) -> Option<Tag>
 }
 
 // The greater of those present.
+// Kept: beside `lesser_present`, since one function over the choice would promise of its parameter what these two say in a word.
 pub fn greater_present(m: Option<Tag>, n: Option<Tag>) -> Option<Tag>
     ensures { result ≡ greater_present m n }
 {
