@@ -24,7 +24,10 @@ pub fn ask<W: Write>(
         let number = asked.number;
         let first = shown(asked.first);
         let second = shown(asked.second);
-        write!(out, "; {question}: {refusal} {present} {number} {first} {second}")?;
+        write!(
+            out,
+            "; {question}: {refusal} {present} {number} {first} {second}"
+        )?;
     }
     writeln!(out)
 }

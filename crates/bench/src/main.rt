@@ -39,7 +39,12 @@ fn queries<W: Write>(out: &mut W, opened: FederateCoordinationState) -> io::Resu
 
 fn main(rt: HostRuntime) -> io::Result<()> {
     let mut out = io::writer(&rt);
-    let opened = open(&mut out, &[7, 3], LifecyclePolicy::CoordinatedTermination, 8)?;
+    let opened = open(
+        &mut out,
+        &[7, 3],
+        LifecyclePolicy::CoordinatedTermination,
+        8,
+    )?;
     queries(&mut out, opened)?;
     open(&mut out, &[9; 33], LifecyclePolicy::KeepAlive, 0)?;
     open(&mut out, &[5, 4095, 5], LifecyclePolicy::KeepAlive, 0)?;

@@ -29,8 +29,13 @@ pub fn play(opened: FederateCoordinationState, load: Load) -> Totals {
         ] {
             for enclave in enclaves {
                 let revision = called.state.coordination.revision;
-                called =
-                    observation::handle_observation(called.state, *enclave, revision, seen, room);
+                called = observation::handle_observation(
+                    called.state,
+                    *enclave,
+                    revision,
+                    seen,
+                    room,
+                );
                 totals.add(called.reply);
             }
         }

@@ -112,8 +112,22 @@ fn play_all<W: Write>(out: &mut W, rows: &[u8]) -> io::Result<()> {
     ] {
         play(out, name, rows, state, &mut [170; 224], &mut [170; 224])?;
     }
-    play(out, "narrow", rows, opened, &mut [170; 223], &mut [170; 223])?;
-    play(out, "spoilt", rows, spoilt(opened), &mut [170; 224], &mut [170; 224])?;
+    play(
+        out,
+        "narrow",
+        rows,
+        opened,
+        &mut [170; 223],
+        &mut [170; 223],
+    )?;
+    play(
+        out,
+        "spoilt",
+        rows,
+        spoilt(opened),
+        &mut [170; 224],
+        &mut [170; 224],
+    )?;
     show_told_apart(out, opened)
 }
 
