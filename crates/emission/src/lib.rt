@@ -1,5 +1,6 @@
 // The records of a call's actions (document 01, "Only calls write records, from byte 0; later bytes keep their values"): each function adds its actions to
 // those written so far. How many there may be is the caller's to bound; the room is large enough by refusal 8.
+// Kept: the room and how many records stand in it are two parameters, since the promises by `Adds` name both.
 #![tactic(auto)]
 
 ghost use Rattle.std.specs.Prelude.{◌≡◌, [], ◌∷◌, ◌++◌, ◌+◌, ◌≤◌, ◌<◌, get_or};

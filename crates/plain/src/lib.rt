@@ -129,6 +129,7 @@ pub fn event_of(call: CallNumbers, listed: &[u32]) -> Option<Event>
     }
 }
 
+// Kept: a function, since none of its types is of this crate, so that no `From` can stand here.
 fn answer_number(answer: Option<bool>) -> u8
     ensures { result ≡ answer_number answer }
 {

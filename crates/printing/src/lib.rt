@@ -1,6 +1,7 @@
 // Numbers and tags as text (document 01, "Script and its listing"), put into lent room from a place on; the answer is the place after the run.
 // New here: the Rust prints nothing. Nothing is refused: the callers lend room for the longest run of its kind, and every byte
 // outside the run keeps its value.
+// Kept: the room and a place in it are two parameters, here and in the crates above, since the promises by `Puts` name both.
 #![tactic(auto)]
 
 ghost use Rattle.std.specs.Prelude.{◌+◌, ◌^◌, ◌≤◌, ◌<◌, [], ◌∷◌, length};

@@ -332,7 +332,7 @@ impl From<Refusal> for u8 {
     }
 }
 
-// The number of a call's refusal, 0 where nothing was refused.
+// The number of a call's refusal, 0 where nothing was refused. Kept: a function, since neither `Option` nor u8 is of this crate, so that no `From` can stand here.
 pub fn refusal_number(refusal: Option<Refusal>) -> u8
     ensures { result ≡ refusal_number refusal }
 {

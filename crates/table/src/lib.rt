@@ -1,5 +1,6 @@
 // The participant table: questions to the columns of a state, and cells put and cleared (state.rs: the walks over `participants`).
 // The state is lent, so that nothing is copied. Every function refuses nothing; a place or a count beyond the columns is the caller's to exclude.
+// Kept: a count of at most 32 is asked by each function, and is no invariant of the state, since the state that C lends may hold any count (27).
 #![tactic(auto)]
 
 ghost use Rattle.std.specs.Prelude.{◌≡◌, ℕ, false, cond, not, ◌||◌, ◌+◌, ◌≤◌, ◌<◌, eqb, get_or, None};
