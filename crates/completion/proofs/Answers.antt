@@ -12,12 +12,12 @@ use Rattle.rules.specs.Walk.{is_stopped}
 use Rattle.rules.specs.Completion.{front_of, least_completed}
 use Rattle.state.specs.declared.FederateCoordinationState.{FederateCoordinationState as Held}
 use Rattle.state.specs.declared.Completion.{Completion}
-use Rattle.state.specs.Beside.{Beside}
+use Rattle.state.specs.Beside.{SameTags, Beside}
 use Rattle.state.specs.Cells.{is_absent, optional_of, cell_of}
 use Rattle.state.specs.Walk.{greatest_from}
 use Rattle.state.specs.View.{tag_at, view, represents}
 use Rattle.state.specs.Parts.{with_completion}
-use Rattle.state.proofs.Beside.{beside, beside-by}
+use Rattle.state.proofs.Beside.{beside, beside-by, tagged, tagged-by}
 use Rattle.table.specs.declared.Scanned.TheVariants.{Blocked, Waiting, Answered}
 use Rattle.completion.specs.declared.Advanced.{Advanced}
 use Rattle.completion.specs.Advance.{Advances}
@@ -42,8 +42,8 @@ module _ {s t : Held} (v : Beside s t) (f : Tag) where
       → front_of (view s) ≡ optional_of f
   front-is e = beside-by v (λ u. front_of (view u) ≡ optional_of f) (front-held (beside t s) f e)
 
-  pub least-is : f ≡ cell_of (least_in t) → least_completed (view s).participants ≡ optional_of f
-  least-is e = beside-by v (λ u. least_completed (view u).participants ≡ optional_of f) (least-held (beside t s) f e)
+pub least-is : {s t : Held} (v : SameTags s t) (f : Tag) → f ≡ cell_of (least_in t) → least_completed (view s).participants ≡ optional_of f
+least-is {s} {t} v f e = tagged-by v (λ u. least_completed (view u).participants ≡ optional_of f) (least-held (tagged t s) f e)
 
 -- ---- a cell that holds a tag
 

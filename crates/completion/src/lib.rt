@@ -7,7 +7,7 @@ ghost use Rattle.tags.specs.Tags.{is_proper};
 ghost use Rattle.rules.specs.Completion.{complete_tag_of, observed_of, front_of};
 ghost use Rattle.rules.specs.Walk.{is_stopped};
 ghost use Rattle.state.specs.declared.FederateCoordinationState.{FederateCoordinationState as Held};
-ghost use Rattle.state.specs.Beside.{Beside};
+ghost use Rattle.state.specs.Beside.{SameTags, Beside};
 ghost use Rattle.state.specs.Cells.{absent, is_absent};
 ghost use Rattle.state.specs.View.{view, represents};
 ghost use Rattle.state.specs.Decides.{Aside, Decides, neat_parts};
@@ -139,7 +139,7 @@ pub fn observe_completion(parts: Parts, generation: u64) -> Decided
 // CompleteTag's second half: the least completed tag becomes the frontier if all have one and it passes the frontier.
 pub fn complete_least(state: &FederateCoordinationState, completion: Completion) -> Option<Least>
     requires { state.now.count ≤ 32 }
-    ensures { (s : Held) → T (represents s) → Beside s state.now → s.completion ≡ completion → CompletesLeast s result }
+    ensures { (s : Held) → T (represents s) → SameTags s state.now → s.completion ≡ completion → CompletesLeast s result }
 {
     let least = state::optional_of(table::least_completed(state))?;
     if !table::lags(completion.completed_frontier, least) {

@@ -6,7 +6,7 @@ ghost use Rattle.std.specs.Prelude.{◌≡◌, false, not, ℕ, ◌≤◌, T};
 ghost use Rattle.rules.specs.Stop.{stop_of, fail_of};
 ghost use Rattle.rules.specs.Calls.{facts, all_proper, own_step};
 ghost use Rattle.state.specs.declared.FederateCoordinationState.{FederateCoordinationState as Held};
-ghost use Rattle.state.specs.Beside.{Beside};
+ghost use Rattle.state.specs.Beside.{SameListed};
 ghost use Rattle.state.specs.View.{represents};
 ghost use Rattle.state.specs.Decides.{Aside, Decides, announces, neat_parts};
 ghost use Rattle.dispatch.specs.Messages.{call_of, Names, enclave_of, tag_of, about_completion, drops, Concludes};
@@ -130,7 +130,7 @@ pub fn conclude(
     completion: Completion,
 ) -> Concluded
     requires { state.now.count ≤ 32 }
-    ensures concludes { (s : Held) (e : ℕ) → T (represents s) → Beside s state.now → s.coordination ≡ coordination → s.completion ≡ completion → Concludes s e next result }
+    ensures concludes { (s : Held) (e : ℕ) → T (represents s) → SameListed s state.now → s.coordination ≡ coordination → s.completion ≡ completion → Concludes s e next result }
     ensures aside { T (not (announces next)) → (result.coordination ≡ coordination) × (drops result.said ≡ false) }
 {
     let quiet = Concluded {

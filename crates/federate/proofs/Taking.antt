@@ -19,11 +19,10 @@ use Rattle.state.specs.declared.Decided.{Decided}
 use Rattle.state.specs.declared.Row.{Row}
 use Rattle.state.specs.declared.Gate.{Gate}
 use Rattle.state.specs.declared.Parts.{Parts}
-use Rattle.state.specs.Beside.{Beside}
+use Rattle.state.specs.Beside.{SameListed, Beside}
 use Rattle.state.specs.View.{view, represents}
 use Rattle.state.specs.Parts.{Sized, row_of, with_row, parts_of, rebuilt, cleared, with_coordination, with_completion, with_gate}
 use Rattle.state.specs.Decides.{Aside, Good, Decides, halfway, neat_parts}
-use Rattle.state.proofs.Beside.{beside-along}
 use Rattle.state.proofs.Neat.{place-parts, neat-place, neat-coordination, neat-completion, neat-failure}
 use Rattle.publication.specs.Announce.{dropped_of}
 use Rattle.publication.proofs.Neat.{parts_whole, row-whole}
@@ -64,27 +63,15 @@ undone s i x w z h q =
 
 -- ---- what is asked of the state whose row alone is stored is asked of the state between, and of the state after the own rule
 
-pub halfway-beside : (s : Held) (i : ℕ) (d : Decided) {t : Held} → t ≡ with_row s i d.parts.row → Beside (halfway s i d) t
-halfway-beside s i d e =
-    beside-along
-    (record { enclaves = refl; published = refl; acknowledged = refl; completion_observed = refl; seconds = refl; nanoseconds = refl; microsteps = refl; count = refl; grant_horizon = refl; lifecycle = refl })
-    (sym e)
+pub halfway-listed : (s : Held) (i : ℕ) (d : Decided) {t : Held} → t ≡ with_row s i d.parts.row → SameListed (halfway s i d) t
+halfway-listed s i d e =
+    subst (SameListed (halfway s i d)) (sym e)
+    (record { published = refl; seconds = refl; nanoseconds = refl; microsteps = refl; count = refl; grant_horizon = refl; lifecycle = refl })
 
 pub own-beside : (s : Held) (i : ℕ) (d : Decided) (k : Concluded) {t : Held} → t ≡ with_row s i d.parts.row → Beside (own_end s i d k) t
 own-beside s i d k e =
-    let b = halfway-beside s i d e in
-    record {
-      enclaves = b.enclaves;
-      published = b.published;
-      acknowledged = b.acknowledged;
-      completion_observed = b.completion_observed;
-      seconds = b.seconds;
-      nanoseconds = b.nanoseconds;
-      microsteps = b.microsteps;
-      count = b.count;
-      grant_horizon = b.grant_horizon;
-      lifecycle = b.lifecycle;
-    }
+    subst (Beside (own_end s i d k)) (sym e)
+    (record { published = refl; acknowledged = refl; completion_observed = refl; seconds = refl; nanoseconds = refl; microsteps = refl; count = refl; grant_horizon = refl })
 
 -- ---- the end in the order of the stores
 

@@ -15,7 +15,7 @@ use Rattle.state.specs.declared.FederateCoordinationState.{FederateCoordinationS
 use Rattle.state.specs.declared.Coordination.{Coordination}
 use Rattle.state.specs.declared.Gate.{Gate}
 use Rattle.state.specs.Walk.{all_of, least_from}
-use Rattle.state.specs.Beside.{Beside}
+use Rattle.state.specs.Beside.{SameListed}
 use Rattle.state.specs.Cells.{cell_of, is_neat, optional_of, policy_of}
 use Rattle.state.specs.View.{tag_at, view, neat_gate, represents}
 use Rattle.state.specs.Parts.{with_coordination, with_gate}
@@ -87,11 +87,11 @@ module _ (s : Held) (whole : T (represents s)) where
 -- ---- in every state beside the one that was lent
 
 module _ (t : Held) (c : Coordination) (x : Bool) (asked : x ≡ all_of (λ j. get_or t.published j false) 0 t.count) where
-  pub announces-not : x ≡ false → (s : Held) → T (represents s) → Beside s t → s.coordination ≡ c → Announces s None
+  pub announces-not : x ≡ false → (s : Held) → T (represents s) → SameListed s t → s.coordination ≡ c → Announces s None
   announces-not q s whole b k = announces-none s whole x (rw (b.published, b.count) asked) q
 
   pub announces-now : x ≡ true → (l : Tag) → l ≡ cell_of (least_from (λ j. optional_of (tag_at t j)) 0 t.count)
-      → (p : ℕ) → p ≡ phase_number (idle_phase (optional_of l) (policy_of t.lifecycle)) → (s : Held) → T (represents s) → Beside s t → s.coordination ≡ c
+      → (p : ℕ) → p ≡ phase_number (idle_phase (optional_of l) (policy_of t.lifecycle)) → (s : Held) → T (represents s) → SameListed s t → s.coordination ≡ c
       → Announces s (Some (with_pending c p l t.grant_horizon))
   announces-now q l least p phase s whole b k =
       rw (phase, ← k, ← b.grant_horizon, ← b.lifecycle)

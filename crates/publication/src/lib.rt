@@ -9,7 +9,7 @@ ghost use Rattle.state.specs.declared.FederateCoordinationState.{FederateCoordin
 ghost use Rattle.state.specs.declared.Next.TheVariants.{Says};
 ghost use Rattle.state.specs.Cells.{optional_of, phase_of, policy_of};
 ghost use Rattle.state.specs.View.{represents};
-ghost use Rattle.state.specs.Beside.{Beside};
+ghost use Rattle.state.specs.Beside.{SameListed};
 ghost use Rattle.state.specs.Decides.{Decides, neat_parts, said_of};
 ghost use Rattle.publication.specs.Announce.{dropped_of, Announces};
 ghost use Rattle.publication.specs.Revise.{revised_of, unprobed_of};
@@ -155,7 +155,7 @@ pub fn announce(
     coordination: Coordination,
 ) -> Option<Coordination>
     requires { state.now.count ≤ 32 }
-    ensures { (s : Held) → T (represents s) → Beside s state.now → s.coordination ≡ coordination → Announces s result }
+    ensures { (s : Held) → T (represents s) → SameListed s state.now → s.coordination ≡ coordination → Announces s result }
 {
     if !table::all_published(state) {
         return None;

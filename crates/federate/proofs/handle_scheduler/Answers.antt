@@ -17,7 +17,7 @@ use Rattle.dispatch.specs.declared.Concluded.{Concluded}
 use Rattle.dispatch.specs.Messages.{call_of, Concludes}
 use Rattle.federate.proofs.Scheduler.{own_end, whole_end}
 use Rattle.federate.proofs.Entering.{Enters, enters, near, out-first}
-use Rattle.federate.proofs.Taking.{observed_end, stored_end, end-stored, end-aside, end-cleared, end_kept, end-dropped, end-held, halfway-beside, own-beside, decides, neat, halfway-holds, own-holds, ends-9, ends-0}
+use Rattle.federate.proofs.Taking.{observed_end, stored_end, end-stored, end-aside, end-cleared, end_kept, end-dropped, end-held, halfway-listed, own-beside, decides, neat, halfway-holds, own-holds, ends-9, ends-0}
 use Rattle.federate.proofs.handle_scheduler.Goals as goal
 use Rattle.federate.proofs.handle_scheduler.Goals.{In-Ok, After-advance_completion, Joined-decided}
 use Rattle.federate.proofs.handle_scheduler.Goals.{then-not-is_about_completion, else-not-is_about_completion, then-decided, else-decided, in-Announcement, in_default}
@@ -47,7 +47,7 @@ module _ (c : After-advance_completion) (n : Enters c.args.room.now c.args.messa
   concludes-at : Concludes between index c.own_step-decided.result.next c.conclude-concluded.result
   concludes-at =
       c.conclude-concluded.ensures.concludes between index (halfway-holds _ _ _ _ n c.own_step-decided.result neat-at)
-      (halfway-beside c.args.state c.in-Ok.place c.own_step-decided.result c.put_row.ensures) refl refl
+      (halfway-listed c.args.state c.in-Ok.place c.own_step-decided.result c.put_row.ensures) refl refl
 
   -- the state after the own rule
   abbrev after : Held
