@@ -84,7 +84,7 @@ pub fn participant_stopped(parts: Parts) -> Decided
 }
 
 // Failed.
-// Kept: apart from `participant_stopped`, which stores no failure; a stopped federate keeps what it has under either.
+// Kept: its own test of the phase. One function for both would take what is stored and said besides, two parameters for three lines.
 pub fn fail(parts: Parts, enclave: Option<u32>) -> Decided
     ensures step { (e : ℕ) → Decides (fail_of enclave) e parts result }
     ensures neat { T (neat_parts parts) → T (neat_parts result.parts) }

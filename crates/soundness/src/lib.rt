@@ -50,7 +50,7 @@ fn is_cell(t: Tag) -> bool
     is_mark_or_proper(t)
 }
 
-// Kept: the started cell without that test (b), as most enclaves have begun nothing: by `is_cell` a call at 32 enclaves takes 2,514 instructions in place of 2,450.
+// Kept: the started cell without that test (b), as most enclaves have begun nothing: by `is_cell` a call at 32 enclaves takes 2,514 instructions in place of 2,450, over the bar of 2,456.
 fn place_is_sound(state: &FederateCoordinationState, i: usize) -> bool
     requires { i < 32 }
     ensures { result ≡ sound_at state.now i }

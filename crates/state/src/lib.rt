@@ -90,7 +90,7 @@ impl FederateCoordinationState {
     }
 }
 
-// The cells of one participant that a scheduler message can change.
+// The cells of one participant that a scheduler message can change. Kept, here and in Parts: as the state holds them, since they are copied from it and back.
 #[derive(Clone, Copy)]
 pub struct Row {
     pub published: bool,

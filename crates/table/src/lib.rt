@@ -31,7 +31,7 @@ pub fn find(state: &FederateCoordinationState, enclave: u32) -> Option<usize>
 }
 
 // `find` where no two of the places hold the same number, or the count: the enclave's own number is tried first, as where indices are dense it is the place.
-// Kept: the count in place of None. A scheduler call compares what it gives with the count once, among its other refusals.
+// Kept: the count in place of None. A scheduler call needs a place also where it is refused 8 or 7 first; with None it would ask twice.
 pub fn seat_of(state: &FederateCoordinationState, enclave: u32) -> usize
     requires { (state.now.count ≤ 32) × Apart state.now.enclaves state.now.count }
     ensures { result ≡ place_from (λ j. eqb (get_or state.now.enclaves j 0) enclave) 0 state.now.count }

@@ -62,7 +62,7 @@ pub fn forever() -> Tag
 }
 
 // Whether a is at or below b in the order of tags.
-// Kept: derived, `a <= b`, a call by value took 1,467 and 2,481 instructions at n = 1 and 32, in place of 1,447 and 2,448.
+// Kept: derived, `a <= b`, a call by value took 1,467 and 2,481 instructions at n = 1 and 32, in place of 1,447 and 2,448, over the bar of 1,455 and 2,456.
 pub fn at_or_below(a: Tag, b: Tag) -> bool
     ensures { result ≡ (a ≤ₜ b) }
 {
@@ -108,7 +108,7 @@ fn within_second(nanoseconds: i32) -> bool
     -999999999 <= nanoseconds && nanoseconds <= 999999999
 }
 
-// Kept: a choice. By `0 < seconds && nanoseconds < 0 || seconds < 0 && 0 < nanoseconds` a call at 32 enclaves with nanoseconds took 3,605 instructions, not 3,126.
+// Kept: a choice. By `0 < seconds && nanoseconds < 0 || seconds < 0 && 0 < nanoseconds` a call at 32 enclaves with nanoseconds took 3,605 instructions, not 3,126, over the bar of 3,183.
 fn opposite_signs(seconds: i64, nanoseconds: i32) -> bool
     ensures { result ≡ opposite_signs seconds nanoseconds }
 {
