@@ -1,5 +1,5 @@
 // A turn that goes idle: every enclave publishes no tag, then observes as it is probed, parked and rechecked, which stops the federate, until an input
-// notice that names all revives it. Each names the current revision. 4 N + 1 calls a turn.
+// notice that names all revives it. Each names the current revision. 4 N + 1 calls a turn; with no enclave, index 0 calls all the same: 5.
 use crate::given::Load;
 use crate::totals::Totals;
 use records::{Observation, SchedulerMessage};
@@ -10,11 +10,11 @@ pub fn play(opened: FederateCoordinationState, load: Load) -> Totals {
     let mut space = [0; 1904];
     let room: &mut [u8] = &mut space;
     let list = load.enclaves();
-    let enclaves = &list[..load.count];
+    let callers = &list[..load.count.max(1)];
     let mut called = calls::with_reply(opened, None, None, 0);
     let mut totals = Totals::default();
     for _ in 0..load.turns {
-        for enclave in enclaves {
+        for enclave in callers {
             let idle = SchedulerMessage::Publish {
                 enclave: *enclave,
                 next_event: None,
@@ -27,7 +27,7 @@ pub fn play(opened: FederateCoordinationState, load: Load) -> Totals {
             Observation::Parked,
             Observation::Rechecked,
         ] {
-            for enclave in enclaves {
+            for enclave in callers {
                 let revision = called.state.coordination.revision;
                 called = observation::handle_observation(
                     called.state,
@@ -39,7 +39,7 @@ pub fn play(opened: FederateCoordinationState, load: Load) -> Totals {
                 totals.add(called.reply);
             }
         }
-        called = gate::input_publishing(called.state, enclaves);
+        called = gate::input_publishing(called.state, &list[..load.count]);
         totals.add(called.reply);
     }
     totals
