@@ -193,6 +193,7 @@ fn pass_events(script: &[u8], from: usize, number: u64) -> Result<usize, BadScri
     ensures { result ≡ passed_of (items number event_of script.now from) }
 {
     let mut at = from;
+    // k has its name for the invariant, which says by it how many are left.
     for k in 0..number {
         at = pass_event(script, at)?;
     }

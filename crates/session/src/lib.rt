@@ -74,8 +74,7 @@ pub fn list_refusal(refusal: Option<Refusal>, place: usize, out: &mut [u8]) -> u
     if out.len() < 160 {
         return 0;
     }
-    // Kept: by its number, as `refusal_line` has it; a match on the case would have to be told apart from the other 27 (d).
-    if records::refusal_number(refusal) == 11 {
+    if refusal == Some(Refusal::ScriptOutOfForm) {
         return listing::put_misplaced(out, 0, place);
     }
     listing::put_refused(out, 0, refusal)
