@@ -2,9 +2,11 @@
 // Refuses with 7 what is not proper and with 10 what leaves the range, and then returns its tag.
 #![tactic(auto)]
 
-ghost use Rattle.std.specs.Prelude.{◌≡◌, ◌+ℤ◌, Some, pos, ◌≤ℤ◌, negsuc};
+ghost use Rattle.std.specs.Prelude.{◌≡◌, ℤ, ◌+ℤ◌, ◌≤ℤ◌, pos, negsuc, Some, true};
+ghost use Rattle.tags.specs.Tags.{within_second, proper_time, is_proper};
 ghost use Rattle.records.specs.declared.Refusal.TheVariants.{DelayOutOfRange};
-ghost use Rattle.delay.specs.Delay.{total_nanoseconds, offset_of, is_zero, answer, stepped_of, moved_of, delay_of};
+ghost use Rattle.delay.specs.Delay.{total_nanoseconds, offset_of, proper_pair, is_zero, answer, stepped_of, moved_of, delay_of};
+ghost use Rattle.delay.specs.Sum.{Adds};
 
 use records::Refusal;
 use tags::Tag;
@@ -32,15 +34,6 @@ impl Duration {
     {
         self.seconds == 0 && self.nanoseconds == 0
     }
-
-    // Seconds and nanoseconds as one number, which 128 bits hold with room to spare.
-    fn total_nanoseconds(self) -> i128
-        ensures exact { result ≡ total_nanoseconds self }
-        ensures low { negsuc 10000000000000000000000000000 ≤ℤ result }
-        ensures high { result ≤ℤ pos 10000000000000000000000000000 }
-    {
-        i128::from(self.seconds) * 1000000000 + i128::from(self.nanoseconds)
-    }
 }
 
 fn offset_of(tag: Tag) -> Duration
@@ -52,11 +45,56 @@ fn offset_of(tag: Tag) -> Duration
     }
 }
 
-// The tag's offset and the duration in one number: the sum is exact.
-fn moved_total(tag: Tag, offset: Duration) -> i128
-    ensures { result ≡ total_nanoseconds (offset_of tag) +ℤ total_nanoseconds offset }
+// The proper pair of a total, from seconds and less than a second beside them: a second goes over where the signs differ.
+fn repair_signs(sum: Duration) -> Duration
+    requires { within_second sum.nanoseconds ≡ true }
+    ensures { (z : ℤ) → total_nanoseconds sum ≡ z → result ≡ proper_pair z }
 {
-    offset_of(tag).total_nanoseconds() + offset.total_nanoseconds()
+    if 0 < sum.seconds && sum.nanoseconds < 0 {
+        Duration {
+            seconds: sum.seconds - 1,
+            nanoseconds: sum.nanoseconds + 1000000000,
+        }
+    } else if sum.seconds < 0 && 0 < sum.nanoseconds {
+        Duration {
+            seconds: sum.seconds + 1,
+            nanoseconds: sum.nanoseconds - 1000000000,
+        }
+    } else {
+        sum
+    }
+}
+
+// The proper pair of a total, from seconds and less than two beside them: one is carried. None where the seconds leave the range.
+fn carry(sum: Duration) -> Option<Duration>
+    requires { (negsuc 1999999997 ≤ℤ sum.nanoseconds) × (sum.nanoseconds ≤ℤ pos 1999999998) }
+    ensures { (z : ℤ) → total_nanoseconds sum ≡ z → Adds z result }
+{
+    let carried = i64::from(sum.nanoseconds / 1000000000);
+    let Some(seconds) = sum.seconds.checked_add(carried) else {
+        return None;
+    };
+    let nanoseconds = sum.nanoseconds % 1000000000;
+    Some(repair_signs(Duration {
+        seconds,
+        nanoseconds,
+    }))
+}
+
+// Both proper, added with carry and sign repair; none where the seconds leave the range.
+fn add_exactly(start: Duration, offset: Duration) -> Option<Duration>
+    requires start_is_proper { proper_time start.seconds start.nanoseconds ≡ true }
+    requires offset_is_proper { proper_time offset.seconds offset.nanoseconds ≡ true }
+    ensures { Adds (total_nanoseconds start +ℤ total_nanoseconds offset) result }
+{
+    let Some(seconds) = start.seconds.checked_add(offset.seconds) else {
+        return None;
+    };
+    let nanoseconds = start.nanoseconds + offset.nanoseconds;
+    carry(Duration {
+        seconds,
+        nanoseconds,
+    })
 }
 
 fn refused(tag: Tag, refusal: Refusal) -> Delayed
@@ -68,19 +106,21 @@ fn refused(tag: Tag, refusal: Refusal) -> Delayed
     }
 }
 
-// The tag at a total of nanoseconds: `/` and `%` go toward zero, so the parts have one sign.
+// A proper tag moved by a proper offset.
 #[tactic(auto, unfolding(crate::specs::Delay::moved_of))]
-fn move_to(tag: Tag, total: i128) -> Delayed
-    ensures { result ≡ moved_of tag total }
+fn move_by(tag: Tag, offset: Duration) -> Delayed
+    requires tag_is_proper { is_proper tag ≡ true }
+    requires offset_is_proper { proper_time offset.seconds offset.nanoseconds ≡ true }
+    ensures { result ≡ moved_of tag (total_nanoseconds (offset_of tag) +ℤ total_nanoseconds offset) }
 {
-    let Ok(seconds) = i64::try_from(total / 1000000000) else {
+    let Some(moved) = add_exactly(offset_of(tag), offset) else {
         return refused(tag, Refusal::DelayOutOfRange);
     };
     Delayed {
         refusal: None,
         tag: Tag {
-            seconds,
-            nanoseconds: (total % 1000000000) as i32,
+            seconds: moved.seconds,
+            nanoseconds: moved.nanoseconds,
             microstep: 0,
         },
     }
@@ -110,5 +150,5 @@ pub fn delay(tag: Tag, offset: Duration) -> Delayed
     if offset.is_zero() {
         return next_microstep(tag);
     }
-    move_to(tag, moved_total(tag, offset))
+    move_by(tag, offset)
 }
