@@ -7,6 +7,8 @@ use native.Mathlib.Omega.{arith}
 use lib.Dec.{eqb}
 use lib.ListN.{length, take, drop, length-append, drop_of_length-le}
 use lib.Seq.{paste, paste-zero, take_all, length-paste, length-take-le, take_at, drop_at, drop-drop}
+use borrow.Rule.Slice.PartMut.{put_mid}
+use Rattle.std.proofs.lemmas.Slice.{put_mid-paste}
 use borrow.Author.Tests.{le-leb, lt-leb, eq-eqb, eqb-true}
 use Rattle.octets.specs.Runs.{put_at, fits_at, written, same_bytes}
 
@@ -14,6 +16,10 @@ use Rattle.octets.specs.Runs.{put_at, fits_at, written, same_bytes}
 pub put-paste : (l : List ℕ) (at : ℕ) (s : List ℕ) → put_at l at s ≡ paste l at s (length s)
 unfolding put_at
 put-paste l at s = ap (λ (t : List ℕ). take at l ++ t ++ drop (at + length s) l) (sym (take_all (length s) s (omega arith)))
+
+-- what a copy into a part of the room leaves is the room with the run there
+pub copied : (room run part : List ℕ) (at k : ℕ) → part ≡ run → length run ≡ k → put_mid at k room part ≡ put_at room at run
+copied room run part at k e n = put_mid-paste at k room part run (length run) e n refl ∙ sym (put-paste room at run)
 
 pub length-put : (l : List ℕ) (at : ℕ) (s : List ℕ) → at + length s ≤ length l → length (put_at l at s) ≡ length l
 length-put l at s h = ap length (put-paste l at s) ∙ length-paste l at s (length s) h (omega arith)

@@ -32,6 +32,7 @@ pub fn get<const N: usize>(s: &[u8], at: usize) -> u64
 }
 
 // Puts the run into the room from index at on, for a caller who knows that it fits.
+#[tactic(auto, using(crate::proofs::Runs::copied))]
 pub fn put_run(room: &mut [u8], at: usize, run: &[u8])
     requires { at + length run.now ≤ length room.old }
     ensures { room.new ≡ put_at room.old at run.now }
