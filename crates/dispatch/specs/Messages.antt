@@ -1,6 +1,6 @@
 -- Message dispatch (document 01, "message dispatch, choosing by kind number"): the call that a scheduler message is, what it names, and what the two halves
 -- of a message's own rule promise. Assumes nothing.
-use Rattle.std.specs.Prelude.{◌≡◌, Bool, true, false, List, [], ◌∷◌, ℕ, T, None, Option, Some}
+use Rattle.std.specs.Prelude.{◌≡◌, Bool, true, false, ◌||◌, eqb, List, [], ◌∷◌, ℕ, T, None, Option, Some}
 use Rattle.records.specs.declared.SchedulerMessage.{SchedulerMessage}
 use Rattle.records.specs.declared.SchedulerMessage.TheVariants as message
 use Rattle.rules.specs.Model.{Tag, CoordinationAction, Complete, Call, active, publish, complete, observed, stopped, failed}
@@ -53,6 +53,10 @@ about_completion (message.CompleteTag e t n) = true
 about_completion (message.CompletionObserved e g) = true
 about_completion (message.ParticipantStopped e) = false
 about_completion (message.Failed e) = false
+
+-- the same of a message's kind number
+abbrev pub kind_about_completion : ℕ → Bool
+kind_about_completion k = eqb k 3 || eqb k 4
 
 -- the actions of a message's own rule
 abbrev pub actions_of : ℕ → Said → Coordination → List CoordinationAction

@@ -9,7 +9,7 @@ ghost use Rattle.state.specs.declared.FederateCoordinationState.{FederateCoordin
 ghost use Rattle.state.specs.Beside.{SameListed};
 ghost use Rattle.state.specs.View.{represents};
 ghost use Rattle.state.specs.Decides.{Aside, Decides, announces, neat_parts};
-ghost use Rattle.dispatch.specs.Messages.{call_of, Names, enclave_of, tag_of, about_completion, drops, Concludes};
+ghost use Rattle.dispatch.specs.Messages.{call_of, Names, enclave_of, tag_of, about_completion, kind_about_completion, drops, Concludes};
 
 use records::{CoordinationPhase, FederateCompletion, SchedulerMessage};
 use state::{Completion, Coordination, Decided, FederateCoordinationState, Next, Notice, Parts};
@@ -67,6 +67,14 @@ pub fn is_about_completion(message: SchedulerMessage) -> bool
         message,
         SchedulerMessage::CompleteTag { .. } | SchedulerMessage::CompletionObserved { .. }
     )
+}
+
+// The same of a message's kind number: 3 CompleteTag, 4 CompletionObserved.
+// Kept: a number, since a caller may hold one of any kind, and nothing may be asked of it.
+pub fn is_kind_about_completion(kind: u8) -> bool
+    ensures { result ≡ kind_about_completion kind }
+{
+    matches!(kind, 3 | 4)
 }
 
 // ParticipantStopped, and `stop` of the rule that it shares.

@@ -4,7 +4,7 @@
 #![tactic(auto)]
 
 ghost use Rattle.std.specs.Prelude.{◌≡◌, [], ◌∷◌, ◌++◌, ◌+◌, ◌≤◌, ◌<◌, get_or};
-ghost use Rattle.state.specs.Decides.{action_of, said_of};
+ghost use Rattle.state.specs.Decides.{action_of, notice_of, said_of};
 ghost use Rattle.publication.specs.Announce.{announcement};
 ghost use Rattle.completion.specs.Advance.{probes_at, sayings};
 ghost use Rattle.dispatch.specs.Messages.{actions_of};
@@ -55,6 +55,16 @@ pub fn add_notice(
         None => written,
         Some(said) => add(room, written, action_of(said, enclave, revision)),
     }
+}
+
+// Adds the action of a kind without a tag, or none where the number is of no such kind.
+// Kept: a number, since a caller may hold one of any kind, and nothing may be asked of it.
+pub fn add_kind(room: &mut [u8], written: usize, kind: u8, enclave: u32, revision: u64) -> usize
+    requires { written ≤ 64 }
+    ensures adds { Adds (said_of (notice_of kind) enclave revision) room.old written room.new result }
+    ensures few { result ≤ written + 1 }
+{
+    add_notice(room, written, state::notice_of(kind), enclave, revision)
 }
 
 // Adds a CompletionProbe for each enclave that lags behind the frontier, by ascending index.

@@ -10,7 +10,7 @@ ghost use Rattle.state.specs.declared.Next.TheVariants.{Says};
 ghost use Rattle.state.specs.Cells.{optional_of, phase_of, policy_of};
 ghost use Rattle.state.specs.View.{represents};
 ghost use Rattle.state.specs.Beside.{SameListed};
-ghost use Rattle.state.specs.Decides.{Decides, neat_parts, said_of};
+ghost use Rattle.state.specs.Decides.{Decides, neat_parts, notice_of, said_of};
 ghost use Rattle.publication.specs.Announce.{dropped_of, Announces};
 ghost use Rattle.publication.specs.Revise.{revised_of, unprobed_of};
 
@@ -55,6 +55,14 @@ pub fn says(parts: Parts, notice: Option<Notice>) -> Decided
         forgets: false,
         next: Next::Says(notice),
     }
+}
+
+// The same of a kind number.
+// Kept: a number, since a caller may hold one of any kind, and nothing may be asked of it.
+pub fn says_kind(parts: Parts, kind: u8) -> Decided
+    ensures { result ≡ record { parts = parts; forgets = false; next = Says (notice_of kind) } }
+{
+    says(parts, state::notice_of(kind))
 }
 
 // Active.

@@ -1,6 +1,6 @@
 -- How a scheduler message's own rule is taken in two halves: first the parts of its enclave and the small parts are stored, then what depends on
 -- the whole table is concluded. What the functions that decide the first half promise. Assumes nothing.
-use Rattle.std.specs.Prelude.{◌≡◌, Bool, true, false, not, cond, ◌&&◌, List, [], ◌∷◌, ℕ, T, None, Option, Some}
+use Rattle.std.specs.Prelude.{◌≡◌, Bool, true, false, not, cond, ◌&&◌, List, [], ◌∷◌, ℕ, T, eqb, None, Option, Some}
 use Rattle.rules.specs.Model.{CoordinationAction, Probe, Park, Recheck, Resume, Stop, Abort, State, Step}
 use Rattle.rules.specs.Walk.{quiet, emit}
 use Rattle.rules.specs.Publication.{all_published, announce}
@@ -30,6 +30,14 @@ action_of AsRecheck e r = Recheck r
 action_of AsResume e r = Resume e r
 action_of AsStop e r = Stop
 action_of AsAbort e r = Abort
+
+-- the notice of this kind number; none of a number that no kind without a tag has
+abbrev pub notice_of : ℕ → Option Notice
+notice_of k =
+    cond (eqb k 6) (Some AsProbe)
+    (cond (eqb k 7) (Some AsPark)
+    (cond (eqb k 8) (Some AsRecheck)
+    (cond (eqb k 9) (Some AsResume) (cond (eqb k 10) (Some AsStop) (cond (eqb k 11) (Some AsAbort) None)))))
 
 abbrev pub said_of : Option Notice → ℕ → ℕ → List CoordinationAction
 said_of None e r = []

@@ -4,6 +4,7 @@
 #![tactic(auto)]
 
 ghost use Rattle.std.specs.Prelude.{◌≡◌, ◌<◌};
+ghost use Rattle.state.specs.Decides.{notice_of};
 ghost use Rattle.state.specs.Cells.{absent, is_absent, cell_of, optional_of};
 ghost use Rattle.state.specs.Parts.{without_pending};
 ghost use Rattle.state.specs.View.{tag_at};
@@ -119,6 +120,22 @@ pub enum Notice {
     Resume,
     Stop,
     Abort,
+}
+
+// The notice of this kind number, as the records of actions have it; none of a number that no kind without a tag has.
+// Kept: a match on the kind number, as document 01 asks where action bytes are decoded.
+pub fn notice_of(kind: u8) -> Option<Notice>
+    ensures { result ≡ notice_of kind }
+{
+    match kind {
+        6 => Some(Notice::Probe),
+        7 => Some(Notice::Park),
+        8 => Some(Notice::Recheck),
+        9 => Some(Notice::Resume),
+        10 => Some(Notice::Stop),
+        11 => Some(Notice::Abort),
+        _ => None,
+    }
 }
 
 // How a scheduler message's own rule goes on once its parts are stored.
