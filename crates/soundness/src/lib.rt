@@ -78,14 +78,15 @@ fn places_are_sound(state: &FederateCoordinationState) -> bool
     true
 }
 
-fn are_cells(a: Tag, b: Tag) -> bool
+// Whether both are cells.
+pub fn are_cells(a: Tag, b: Tag) -> bool
     ensures { result ≡ (is_cell a && is_cell b) }
 {
     is_cell(a) && is_cell(b)
 }
 
 // Whether a pending publication holds two cells, and an absent one nothing.
-fn publication_is_sound(coordination: &Coordination) -> bool
+pub fn publication_is_sound(coordination: &Coordination) -> bool
     ensures { result ≡ sound_publication coordination.now }
 {
     if coordination.pending {
@@ -110,7 +111,7 @@ fn coordination_is_sound(coordination: &Coordination) -> bool
 }
 
 // Whether both are there or neither.
-fn inputs_are_sound(first: Tag, last: Tag) -> bool
+pub fn inputs_are_sound(first: Tag, last: Tag) -> bool
     ensures { result ≡ sound_inputs first last }
 {
     if is_mark(first) {
@@ -128,7 +129,7 @@ fn completion_is_sound(completion: &Completion) -> bool
 }
 
 // Whether the stored acquisition has a proper tag, or the mark and revision 0.
-fn acquisition_is_sound(revision: u64, granted: Tag) -> bool
+pub fn acquisition_is_sound(revision: u64, granted: Tag) -> bool
     ensures { result ≡ sound_acquisition revision granted }
 {
     if is_mark(granted) {
@@ -146,7 +147,7 @@ fn gate_is_sound(gate: &Gate) -> bool
 }
 
 // Whether the lifecycle is one of the three, the grant horizon a cell, and an absent failure 0.
-fn rest_is_sound(state: &FederateCoordinationState) -> bool
+pub fn rest_is_sound(state: &FederateCoordinationState) -> bool
     ensures { result ≡ sound_rest state.now }
 {
     state.lifecycle <= 2
