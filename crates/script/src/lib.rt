@@ -93,6 +93,8 @@ fn policy(line: &[u8]) -> Option<LifecyclePolicy>
 }
 
 // The line at a place, whose text was read as this, with the place after it.
+// Inlined, as is `number_at`: called, the two made a line of a long list of participants cost a third more.
+#[inline]
 fn item_at<T: Copy>(script: &[u8], at: usize, read: Option<T>) -> Result<(T, usize), BadScript>
     ensures { result ≡ read_of (item (λ line. read) script.now at) }
 {
@@ -124,6 +126,7 @@ fn settings_at(script: &[u8], at: usize) -> Result<(u64, usize), BadScript>
     )
 }
 
+#[inline]
 fn number_at(script: &[u8], at: usize, most: u64) -> Result<(u64, usize), BadScript>
     ensures { result ≡ read_of (item (number_of most) script.now at) }
 {
