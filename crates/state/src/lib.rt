@@ -123,7 +123,7 @@ pub enum Notice {
 }
 
 // The notice of this kind number, as the records of actions have it; none of a number that no kind without a tag has.
-// Kept: a match on the kind number, as document 01 asks where action bytes are decoded.
+// Kept: a number, since a caller may hold one of any kind, and nothing may be asked of it.
 pub fn notice_of(kind: u8) -> Option<Notice>
     ensures { result ≡ notice_of kind }
 {
